@@ -1,0 +1,12 @@
+pub mod LineSteps
+pub mod FieldSteps
+pub mod NumberSteps
+pub mod CoordinateSteps
+pub mod EscapeRuns
+pub mod FindSteps
+pub mod Fronts
+pub mod EscapeSteps
+pub mod EscapeLaw
+pub mod NumberLaw
+pub mod Trimming
+pub mod DegreesLaw
