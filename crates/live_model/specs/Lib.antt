@@ -1,0 +1,10 @@
+pub mod Ids
+pub mod Points
+pub mod Ordered
+pub mod Objects
+pub mod Stores
+pub mod FieldValues
+pub mod ObjectLines
+pub mod LineTests
+pub mod OplTexts
+pub mod CanonicalLines

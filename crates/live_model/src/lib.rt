@@ -1,0 +1,23 @@
+//! The map's model: objects of OpenStreetMap, stores of them, and the texts that spell them.
+//!
+//! The crates above read, keep and print these values; what each of them owes is stated here, once, in
+//! `specs/`: ids and their order, points and rectangles, good entities, stores and how lines are applied
+//! to them, the object lines of a text, and the canonical line. An id and a store are compared by the
+//! id's ordinal, one natural number. What the layer above may rely on: every value that it is given is
+//! good in the words of `specs/Objects.antt`, and keeps to the grid of `specs/Points.antt`.
+#![tactic(auto)]
+
+mod ids;
+mod objects;
+mod opl;
+mod points;
+mod steps;
+#[cfg(test)]
+mod tests;
+
+pub use ids::{Kind, ObjId};
+pub use objects::{Entity, Line, Lines, Member, Tag};
+pub use opl::{Letter, OplBreak, OplKind};
+pub use owned_data::{List, Mem, NoMemory, Text};
+pub use points::{BadRect, Point, Rect};
+pub use steps::Steps;
