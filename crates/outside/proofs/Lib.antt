@@ -1,0 +1,4 @@
+pub mod ReadingLemmas
+pub mod Weightless
+pub mod WholeLemmas
+pub mod MemoryLemmas

@@ -1,0 +1,9 @@
+pub mod Faults
+pub mod Readings
+pub mod Files
+pub mod Sinks
+pub mod Pieces
+pub mod Whole
+pub mod Turns
+pub mod Memory
+pub mod Shown
