@@ -1,0 +1,6 @@
+pub mod Groups
+pub mod Spellings
+pub mod Places
+pub mod Writing
+pub mod NextField
+pub mod Overlong

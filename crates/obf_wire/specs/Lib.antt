@@ -1,0 +1,4 @@
+pub mod Kinds
+pub mod Varint
+pub mod Zigzag
+pub mod Fields
