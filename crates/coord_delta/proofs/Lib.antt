@@ -1,0 +1,4 @@
+pub mod NumberLists
+pub mod PlaceLists
+pub mod Readings
+pub mod Walks
