@@ -10,3 +10,5 @@ pub mod CanonicalValues
 pub mod CanonicalRows
 pub mod CanonicalTexts
 mod WorkedRows
+mod RuleRows
+mod RecordRows

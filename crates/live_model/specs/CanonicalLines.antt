@@ -18,20 +18,25 @@ use Rattle.live_model.specs.Objects.{IsGood}
 use Rattle.live_model.specs.ObjectLines.{line_of}
 use Rattle.live_model.specs.OplTexts.{OplText}
 
+-- `n`, `w` or `r`
 abbrev pub kind_letter : Kind → ℕ
 kind_letter Node = 110
 kind_letter Way = 119
 kind_letter Relation = 114
 
+-- the letter of the kind and the number
 unfoldable pub id_text : Id → List ℕ
 id_text o = kind_letter o.kind ∷ signed_decimal o.number
 
+-- a key, `=` and a value
 unfoldable pub tag_text : Tag → List ℕ
 tag_text t = escaped t.key ++ 61 ∷ escaped t.value
 
+-- the number of a node with its letter
 unfoldable pub ref_text : ℤ → List ℕ
 ref_text n = 110 ∷ signed_decimal n
 
+-- an id with its letter, `@` and a role
 unfoldable pub member_text : Member → List ℕ
 member_text m = id_text m.target ++ 64 ∷ escaped m.role
 
@@ -55,6 +60,7 @@ parts_text Relation e = codes " M" ++ listed member_text e.members
 unfoldable pub row_text : Entity → List ℕ
 row_text e = id_text e.id ++ codes " v" ++ printed e.version ++ codes " dV T" ++ listed tag_text e.tags ++ parts_text e.id.kind e
 
+-- the canonical line of an object
 unfoldable pub line_text : Entity → List ℕ
 line_text e = row_text e ++ 10 ∷ []
 
@@ -76,6 +82,7 @@ abbrev pub CanonicalTextLaw : Type 0
 CanonicalTextLaw = (es : List Entity) → AllByRecursion IsGood es → AllByRecursion HasTexts es → AllByRecursion (λ e. e.version < 2 ^ 32) es
     → length es ≤ 4000000 → OplText (lines_text es) (map Live es)
 
+-- there is a place, and it lies in the rectangle
 abbrev pub is_located_in : Rect → Option Point → Bool
 is_located_in r None = false
 is_located_in r (Some p) = is_inside r p

@@ -25,6 +25,7 @@ items_of (c ∷ cs) = slice_split (λ b. b == 44) (c ∷ cs)
 abbrev pub is_few : List ℕ → Bool
 is_few value = nat_le (length (items_of value)) 65535
 
+-- an item before others, where both are there
 abbrev pub prepended : {A : Type 0} → Option A → Option (List A) → Option (List A)
 prepended (Some x) (Some xs) = Some (x ∷ xs)
 prepended x xs = None
@@ -42,9 +43,11 @@ parted_at c bytes =
 
 -- Ids with their letter.
 
+-- the kind of a letter
 abbrev pub kind_of : ℕ → Option Kind
 kind_of c = if c == 110 then Some Node else if c == 119 then Some Way else if c == 114 then Some Relation else None
 
+-- an id of a kind and a number, where both are there
 abbrev pub id_from : Option Kind → Option ℤ → Option Id
 id_from (Some kind) (Some number) = Some (record { kind = kind; number = number })
 id_from kind number = None
@@ -89,12 +92,15 @@ unfoldable pub coordinate_of : ℕ → List ℕ → Option (Option ℤ)
 coordinate_of most [] = Some None
 coordinate_of most (c ∷ cs) = option_map Some (degrees_of most (c ∷ cs))
 
+-- nothing, or at most 180 degrees to the east or west
 abbrev pub longitude_of : List ℕ → Option (Option ℤ)
 longitude_of value = coordinate_of 1800000000 value
 
+-- nothing, or at most 90 degrees to the north or south
 abbrev pub latitude_of : List ℕ → Option (Option ℤ)
 latitude_of value = coordinate_of 900000000 value
 
+-- a tag of a key and a value, where both are there
 abbrev pub tag_from : Option (List ℕ) → Option (List ℕ) → Option Tag
 tag_from (Some key) (Some value) = Some (record { key = key; value = value })
 tag_from key value = None
@@ -115,6 +121,7 @@ tags_from pairs = put_all (slice_cmp nat_cmp) (λ t. t.key) [] pairs
 unfoldable pub refs_of : List ℕ → Option (List ℤ)
 refs_of value = each_of ref_of (items_of value)
 
+-- a member of a target and a role, where both are there
 abbrev pub member_from : Option Id → Option (List ℕ) → Option Member
 member_from (Some target) (Some role) = Some (record { target = target; role = role })
 member_from target role = None
@@ -123,6 +130,7 @@ member_from target role = None
 unfoldable pub member_of : List ℕ → Option Member
 member_of item = option_and_then (λ parts. member_from (object_of parts.0) (text_of parts.1)) (parted_at 64 item)
 
+-- the members of a relation
 unfoldable pub members_of : List ℕ → Option (List Member)
 members_of value = each_of member_of (items_of value)
 

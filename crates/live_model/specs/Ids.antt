@@ -3,6 +3,7 @@ use Rattle.std.specs.Prelude.{ℕ, ◌^◌, ◌*◌, ◌+◌, ◌-◌, ◌≤◌
 use Rattle.live_model.specs.declared.ids.Kind.{Kind}
 use Rattle.live_model.specs.declared.ids.Kind.TheVariants.{Node, Way, Relation}
 
+-- what an object is known by
 pub record Id : Type 0 where
   pub kind : Kind
   pub number : ℤ

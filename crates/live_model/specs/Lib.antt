@@ -8,3 +8,13 @@ pub mod ObjectLines
 pub mod LineTests
 pub mod OplTexts
 pub mod CanonicalLines
+pub mod Rules
+pub mod Closures
+pub mod Geometry
+pub mod Records
+pub mod Maps
+pub mod QueryTexts
+pub mod RowTexts
+pub mod Fits
+pub mod MapLaws
+pub mod Levels

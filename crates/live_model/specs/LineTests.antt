@@ -33,6 +33,7 @@ value_tests Lat value = (BadNumber, is_some (latitude_of value)) ∷ []
 value_tests Refs value = (LocatedRef, not (breaks_located (items_of value))) ∷ (BadList, is_some (refs_of value)) ∷ (OverLimit, is_few value) ∷ []
 value_tests Members value = (BadEscape, is_some (unescaped value)) ∷ (BadList, is_some (members_of value)) ∷ (OverLimit, is_few value) ∷ []
 
+-- a field with no letter of its kind has no further tests
 abbrev pub letter_tests : Option Letter → List ℕ → List (OplKind × Bool)
 letter_tests None value = []
 letter_tests (Some letter) value = value_tests letter value
@@ -43,6 +44,7 @@ field_tests kind before field =
     (BadField, is_some (letter_of kind (first_of field))) ∷ (Twice, not (comes_in before (first_of field)))
     ∷ letter_tests (letter_of kind (first_of field)) (drop 1 field)
 
+-- tests at one place of the line
 abbrev pub tests_at : ℕ → List (OplKind × Bool) → List Test
 tests_at at [] = []
 tests_at at (t ∷ ts) = record { at = at; kind = t.0; passes = t.1 } ∷ tests_at at ts
@@ -52,6 +54,7 @@ abbrev pub fields_tests : Kind → List ℕ → List (ℕ × List ℕ) → List 
 fields_tests kind before [] = []
 fields_tests kind before (f ∷ fs) = tests_at f.0 (field_tests kind before f.1) ++ fields_tests kind (before ++ first_of f.1 ∷ []) fs
 
+-- the tests of the fields behind the id, if there is an id
 abbrev pub tests_with : Option Id → List (ℕ × List ℕ) → List Test
 tests_with None fs = []
 tests_with (Some o) fs = fields_tests o.kind [] fs
@@ -62,6 +65,7 @@ tests_of row =
     tests_at 0 ((NotUtf8, is_utf8 row) ∷ (BadId, is_some (head_of (fields_from 0 row))) ∷ [])
     ++ tests_with (head_of (fields_from 0 row)) (drop 1 (fields_from 0 row))
 
+-- how a line breaks that fails this test
 abbrev pub place_and_kind : Test → ℕ × OplKind
 place_and_kind t = (t.at, t.kind)
 

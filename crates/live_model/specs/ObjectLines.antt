@@ -64,9 +64,11 @@ abbrev pub first_of : List ℕ → ℕ
 first_of [] = 0
 first_of (c ∷ cs) = c
 
+-- the byte is one of these
 abbrev pub comes_in : List ℕ → ℕ → Bool
 comes_in firsts c = list_any (λ d. d == c) firsts
 
+-- a letter of this kind, and a good value behind it
 abbrev pub is_field : Kind → List ℕ → Bool
 is_field kind field = unwrap_or (option_map (λ letter. is_value letter (drop 1 field)) (letter_of kind (first_of field))) false
 
@@ -91,6 +93,7 @@ abbrev pub place_from : Option ℤ → Option ℤ → Option Point
 place_from (Some lon) (Some lat) = Some (point_at lon lat)
 place_from lon lat = None
 
+-- what a line says of an object, by its fields
 abbrev pub line_from : Id → List (ℕ × List ℕ) → Line
 line_from o fs =
     if found State gone_of false fs then Gone o (found Version version_of 0 fs)
@@ -108,6 +111,7 @@ abbrev pub head_of : List (ℕ × List ℕ) → Option Id
 head_of [] = None
 head_of (f ∷ fs) = if f.0 == 0 then object_of f.1 else None
 
+-- the same, where there is an id and the fields are good
 abbrev pub line_with : Option Id → List (ℕ × List ℕ) → Option Line
 line_with None fs = None
 line_with (Some o) fs = if are_fields o.kind [] fs then Some (line_from o fs) else None

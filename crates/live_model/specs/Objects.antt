@@ -26,6 +26,7 @@ HasParts Node place refs members = (refs ≡ []) × (members ≡ [])
 HasParts Way place refs members = (place ≡ None) × (members ≡ [])
 HasParts Relation place refs members = (place ≡ None) × (refs ≡ [])
 
+-- an object as the map may hold it
 pub record IsGood (e : Entity) : Type 0 where
   pub id : IsId e.id
   pub tags : AreTags e.tags
@@ -37,6 +38,7 @@ pub record IsGood (e : Entity) : Type 0 where
   pub refs : AllByRecursion (λ n. unsigned_abs n ≤ 2 ^ 48) e.refs
   pub members : AllByRecursion (λ m. IsId m.target) e.members
 
+-- a good object, or the id of one that is gone
 abbrev pub IsGoodLine : Line → Type 0
 IsGoodLine (Live e) = IsGood e
 IsGoodLine (Gone o version) = IsId o

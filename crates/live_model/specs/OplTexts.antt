@@ -49,6 +49,7 @@ kind_name OverLimit = codes "OverLimit"
 abbrev pub row_break : ℕ → List ℕ → Option (ℕ × OplKind)
 row_break n row = if nat_le 4000000 n then Some (0, OverLimit) else break_of row
 
+-- the break of a line, counted from the start of the text
 abbrev pub break_at : ℕ → ℕ × OplKind → OplBreak
 break_at start b = record { at = start + b.0; kind = b.1 }
 

@@ -11,9 +11,11 @@ module _ {A K : Type 0} (cmp : K → K → Ordering) (key : A → K) where
   IsRisingBy [] = Unit {0}
   IsRisingBy (x ∷ xs) = AllByRecursion (λ y. cmp (key x) (key y) ≡ Less) xs × IsRisingBy xs
 
+  -- the items that come before a key
   abbrev pub below : K → List A → List A
   below k xs = filter (λ x. is_lt (cmp (key x) k)) xs
 
+  -- the items that come behind a key
   abbrev pub above : K → List A → List A
   above k xs = filter (λ x. is_gt (cmp (key x) k)) xs
 

@@ -7,12 +7,15 @@ use Rattle.live_model.specs.declared.points.Point.{Point}
 use Rattle.live_model.specs.declared.points.Rect.{Rect}
 use Rattle.live_model.specs.Ids.{lifted_by}
 
+-- at most 360 degrees to the east and 180 to the south
 abbrev pub IsInGrid : Point → Type 0
 IsInGrid p = (p.x ≤ 3600000000) × (p.y ≤ 1800000000)
 
+-- ten-millionths of a degree to the east
 abbrev pub longitude : Point → ℤ
 longitude p = pos p.x -ℤ pos 1800000000
 
+-- ten-millionths of a degree to the north
 abbrev pub latitude : Point → ℤ
 latitude p = pos 900000000 -ℤ pos p.y
 
@@ -24,6 +27,7 @@ are_on_earth lon lat = nat_le (unsigned_abs lon) 1800000000 && nat_le (unsigned_
 abbrev pub point_at : ℤ → ℤ → Point
 point_at lon lat = record { x = lifted_by 1800000000 lon; y = lifted_by 900000000 (neg_ℤ lat) }
 
+-- the point of a longitude and a latitude, where they are on earth
 abbrev pub point_from : ℤ → ℤ → Option Point
 point_from lon lat = if are_on_earth lon lat then Some (point_at lon lat) else None
 
@@ -58,6 +62,7 @@ abbrev pub rect_from_words : Option ℤ → Option ℤ → Option ℤ → Option
 rect_from_words (Some west) (Some south) (Some east) (Some north) = rect_from west south east north
 rect_from_words west south east north = None
 
+-- the rectangle of four fields: west, south, east and north
 abbrev pub rect_from_fields : List (ℕ × List ℕ) → Option Rect
 rect_from_fields (west ∷ south ∷ east ∷ north ∷ []) =
     rect_from_words (degrees_of 1800000000 west.1) (degrees_of 900000000 south.1) (degrees_of 1800000000 east.1) (degrees_of 900000000 north.1)

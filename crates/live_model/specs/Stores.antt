@@ -13,6 +13,7 @@ use Rattle.live_model.specs.Objects.{IsGood}
 abbrev pub key : Entity → ℕ
 key e = ordinal e.id
 
+-- entities whose ids rise strictly
 abbrev pub IsRising : List Entity → Type 0
 IsRising es = IsRisingBy nat_cmp key es
 

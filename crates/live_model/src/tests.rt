@@ -2,8 +2,12 @@
 
 ghost use Rattle.std.specs.Prelude.{◌≡◌, ◌<◌};
 
-use crate::{Entity, Kind, Line, Lines, List, Mem, Member, ObjId, Point, Rect, Steps, Tag, Text};
+use crate::{
+    AddrKind, AddrRec, BanRec, Class, Dir, Entity, Kind, Level, Line, Lines, List, MapRec, Mem,
+    Member, ObjId, PoiRec, Point, Rec, Rect, RoadNode, RoadRec, Rule, Shape, Steps, Tag, Text,
+};
 use std::alloc::Global;
+use std::cmp::Ordering;
 use std::marker::Brand;
 use std::sync::ledger::{Blank, Ledger};
 use std::test::Fail;
@@ -106,5 +110,150 @@ fn count<L: Ledger>(blank: Blank)
 #[test]
 fn steps(_rt: HostRuntime) -> Result<(), Fail> {
     count::<Brand>(Blank::new(1));
+    Ok(())
+}
+
+#[test]
+fn levels(rt: HostRuntime) -> Result<(), Fail> {
+    assert_eq!(rt; Level::Hour.number(), 1);
+    assert_eq!(rt; Level::from_number(3), Some(Level::Month));
+    assert_eq!(rt; Level::from_number(4), None);
+    Ok(())
+}
+
+#[test]
+fn rules(rt: HostRuntime) -> Result<(), Fail> {
+    let rule = Rule {
+        shape: Shape::Point,
+        key: Text::copied(rt.alloc(), "amenity")?,
+        value: Some(Text::copied(rt.alloc(), "cafe")?),
+        zoom: 15,
+        class: Class::Poi(Text::copied(rt.alloc(), "cafe")?),
+    };
+    let copied = rule.copy(rt.alloc())?;
+    assert_eq!(rt; (copied.shape, copied.zoom), (Shape::Point, 15));
+    assert_eq!(rt; copied.key.as_str(), "amenity");
+    assert_eq!(rt; copied.value.ok_or("a value")?.as_str(), "cafe");
+    let category = match copied.class.copy(rt.alloc())? {
+        Class::Poi(category) => category,
+        _ => Text::new(rt.alloc()),
+    };
+    assert_eq!(rt; category.as_str(), "cafe");
+    Ok(())
+}
+
+const FIRST_CORNER: Point = Point {
+    x: 1_931_000_000,
+    y: 375_998_000,
+};
+
+const SECOND_CORNER: Point = Point {
+    x: 1_931_010_000,
+    y: 375_998_000,
+};
+
+fn drawn(alloc: Global, id: ObjId, name: &str, corner: Point) -> Mem<Rec> {
+    let mut points = List::new(alloc);
+    points.push(corner)?;
+    points.push(SECOND_CORNER)?;
+    Ok(Rec::Map(MapRec {
+        id,
+        rule: 3,
+        shape: Shape::Line,
+        name: Text::copied(alloc, name)?,
+        points,
+    }))
+}
+
+fn poi(alloc: Global, id: ObjId, category: &str, name: &str) -> Mem<Rec> {
+    Ok(Rec::Poi(PoiRec {
+        id,
+        category: Text::copied(alloc, category)?,
+        name: Text::copied(alloc, name)?,
+        point: FIRST_CORNER,
+    }))
+}
+
+fn address(alloc: Global, id: ObjId, kind: AddrKind, name: &str) -> Mem<Rec> {
+    Ok(Rec::Addr(AddrRec {
+        id,
+        kind,
+        name: Text::copied(alloc, name)?,
+        number: Text::copied(alloc, "3")?,
+        point: FIRST_CORNER,
+    }))
+}
+
+fn road(alloc: Global, id: ObjId, dir: Dir, last: i64) -> Mem<Rec> {
+    let mut nodes = List::new(alloc);
+    nodes.push(RoadNode {
+        id: 3,
+        point: FIRST_CORNER,
+    })?;
+    nodes.push(RoadNode {
+        id: last,
+        point: SECOND_CORNER,
+    })?;
+    Ok(Rec::Road(RoadRec {
+        id,
+        rule: 4,
+        value: Text::copied(alloc, "residential")?,
+        dir,
+        nodes,
+    }))
+}
+
+fn turn(alloc: Global, id: ObjId, from: i64, to: i64) -> Mem<Rec> {
+    Ok(Rec::Ban(BanRec {
+        id,
+        value: Text::copied(alloc, "no_left_turn")?,
+        from,
+        via: 5,
+        to,
+        point: SECOND_CORNER,
+    }))
+}
+
+// A second owner compares as equal, and is of the same object.
+fn is_kept(alloc: Global, record: Rec) -> Mem<bool> {
+    let copied = record.copy(alloc)?;
+    Ok(copied.id() == record.id() && copied.compare(&record) == Ordering::Equal)
+}
+
+fn comes_before(a: Rec, b: Rec) -> bool {
+    a.compare(&b) == Ordering::Less && b.compare(&a) == Ordering::Greater
+}
+
+#[test]
+fn records_are_copied(rt: HostRuntime) -> Result<(), Fail> {
+    let id = ObjId::new(Kind::Way, 20).ok_or("a way")?;
+    let drawn = is_kept(
+        rt.alloc(),
+        drawn(rt.alloc(), id, "Main Street", FIRST_CORNER)?,
+    )?;
+    let poi = is_kept(rt.alloc(), poi(rt.alloc(), id, "cafe", "Bo Bar")?)?;
+    let address = is_kept(
+        rt.alloc(),
+        address(rt.alloc(), id, AddrKind::House, "Main Street")?,
+    )?;
+    let road = is_kept(rt.alloc(), road(rt.alloc(), id, Dir::Both, 4)?)?;
+    let turn = is_kept(rt.alloc(), turn(rt.alloc(), id, 20, 22)?)?;
+    assert_eq!(rt;
+        (drawn, poi, address, road, turn),
+        (true, true, true, true, true)
+    );
+    Ok(())
+}
+
+#[test]
+fn records_in_order(rt: HostRuntime) -> Result<(), Fail> {
+    let id = ObjId::new(Kind::Way, 20).ok_or("a way")?;
+    let first = drawn(rt.alloc(), id, "a", SECOND_CORNER)?;
+    let second = drawn(rt.alloc(), id, "b", FIRST_CORNER)?;
+    let by_name = comes_before(first, second);
+    let road = road(rt.alloc(), id, Dir::Both, 4)?;
+    let turn = turn(rt.alloc(), id, 1, 1)?;
+    let by_class = comes_before(road, turn);
+    assert_eq!(rt; (by_name, by_class), (true, true));
     Ok(())
 }

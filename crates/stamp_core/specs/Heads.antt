@@ -3,8 +3,8 @@ use Rattle.std.specs.Prelude.{◌≡◌, ◌≤◌, Option, Some, None}
 use Rattle.stamp_core.specs.Hours.{CivilHour, number_of}
 use Rattle.stamp_core.specs.Spans.{IsWithin}
 use Rattle.stamp_core.specs.declared.head.Head.{Head}
-use Rattle.stamp_core.specs.declared.level.Level.{Level}
-use Rattle.stamp_core.specs.declared.level.Level.TheVariants.{Base}
+use Rattle.live_model.specs.declared.levels.Level.{Level}
+use Rattle.live_model.specs.declared.levels.Level.TheVariants.{Base}
 
 -- a base has no stamps; above it both are there, the first at most the last, in one stretch of the level
 abbrev pub FitsLevel : Level → Option CivilHour → Option CivilHour → Type 0

@@ -11,11 +11,10 @@
 #![tactic(auto)]
 
 mod head;
-mod level;
 mod stamp;
 #[cfg(test)]
 mod tests;
 
 pub use head::Head;
-pub use level::Level;
+pub use live_model::Level;
 pub use stamp::{BadDate, Stamp};

@@ -16,7 +16,7 @@ pub enum Level {
 }
 
 impl Level {
-    ghost use Rattle.stamp_core.specs.Levels.{level_number};
+    ghost use Rattle.live_model.specs.Levels.{level_number};
 
     /// The number of the level: 0 for a base, 1 for an hour, 2 for a day, 3 for a month.
     pub fn number(self) -> u64

@@ -1,8 +1,9 @@
 -- The numbers of the levels.
 use Rattle.std.specs.Prelude.{ℕ}
-use Rattle.stamp_core.specs.declared.level.Level.{Level}
-use Rattle.stamp_core.specs.declared.level.Level.TheVariants.{Base, Hour, Day, Month}
+use Rattle.live_model.specs.declared.levels.Level.{Level}
+use Rattle.live_model.specs.declared.levels.Level.TheVariants.{Base, Hour, Day, Month}
 
+-- the levels in order, from 0 on
 abbrev pub level_number : Level → ℕ
 level_number Base = 0
 level_number Hour = 1
