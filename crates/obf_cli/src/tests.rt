@@ -362,7 +362,7 @@ struct Break {
     said: &'static str,
 }
 
-static BREAKS: [Break; 46] = [
+static BREAKS: [Break; 70] = [
     Break {
         text: b"c5",
         said: "BadId at 0",
@@ -544,21 +544,116 @@ static BREAKS: [Break; 46] = [
         said: "NotUtf8 at 3",
     },
     Break {
+        text: b"n1 q v1 dV",
+        said: "BadField at 3",
+    },
+    Break {
+        text: b"n1 v1 q dV",
+        said: "BadField at 6",
+    },
+    Break {
+        text: b"n1 v1 dV q",
+        said: "BadField at 9",
+    },
+    Break {
+        text: b"n1 Ta=% v1 dV",
+        said: "BadEscape at 3",
+    },
+    Break {
+        text: b"n1 v1 Ta=% dV",
+        said: "BadEscape at 6",
+    },
+    Break {
+        text: b"n1 v1 dV Ta=%",
+        said: "BadEscape at 9",
+    },
+    Break {
+        text: b"n1 xa v1 dV",
+        said: "BadNumber at 3",
+    },
+    Break {
+        text: b"n1 v1 xa dV",
+        said: "BadNumber at 6",
+    },
+    Break {
+        text: b"n1 v1 dV xa",
+        said: "BadNumber at 9",
+    },
+    Break {
+        text: b"w1 Nn1x2 v1 dV",
+        said: "LocatedRef at 3",
+    },
+    Break {
+        text: b"w1 v1 Nn1x2 dV",
+        said: "LocatedRef at 6",
+    },
+    Break {
+        text: b"w1 v1 dV Nn1x2",
+        said: "LocatedRef at 9",
+    },
+    Break {
+        text: b"w1 Nw1 v1 dV",
+        said: "BadList at 3",
+    },
+    Break {
+        text: b"w1 v1 Nw1 dV",
+        said: "BadList at 6",
+    },
+    Break {
+        text: b"w1 v1 dV Nw1",
+        said: "BadList at 9",
+    },
+    Break {
+        text: b"n1 v1 v1 x1 y2",
+        said: "Twice at 6",
+    },
+    Break {
+        text: b"n1 v1 x1 x1 y2",
+        said: "Twice at 9",
+    },
+    Break {
+        text: b"n1 v1 x1 y2 v1",
+        said: "Twice at 12",
+    },
+    Break {
+        text: b"n1x q q",
+        said: "BadId at 0",
+    },
+    Break {
+        text: b"n1\nn v1 dV q",
+        said: "BadId at 3",
+    },
+    Break {
+        text: b"n1\xff v1 dV",
+        said: "NotUtf8 at 0",
+    },
+    Break {
+        text: b"n1 u\xff dV",
+        said: "NotUtf8 at 0",
+    },
+    Break {
+        text: b"nq v1 dV u\xff",
+        said: "NotUtf8 at 0",
+    },
+    Break {
+        text: b"n1 n1x",
+        said: "BadField at 3",
+    },
+    Break {
         text: b"n1\n# x\n\nw2 Nn1\nr3 dX",
         said: "BadField at 18",
     },
 ];
 
-fn break_of<A: Abort>(rt: &A, alloc: Global, row: &Break) -> Mem<()> {
+fn break_of<A: Abort>(rt: &A, alloc: Global, text: &[u8], said: &str) -> Mem<()> {
     let words = texts(alloc, &["dump", "b.opl"])?;
-    let files = one_file(alloc, "b.opl", row.text.to_vec(alloc)?)?;
+    let files = one_file(alloc, "b.opl", text.to_vec(alloc)?)?;
     assert!(rt; names_differ(files.as_slice()));
     let mut files = MemFiles::new(alloc, files, Vec::new(alloc), Vec::new(alloc), 100);
     let mut out = MemSink::new(alloc, Vec::new(alloc), 100);
     let mut err = MemSink::new(alloc, Vec::new(alloc), 100);
     let status = ask(alloc, words.as_slice(), &mut files, &mut out, &mut err);
-    assert_eq!(rt; status.code(), 3, "{}", row.said);
-    let said = row.said;
+    assert_eq!(rt; status.code(), 3, "{}", said);
     let line = format!(in alloc; "obf: b.opl: {said}\n")?;
     assert_eq!(rt; err.received(), line.as_str().as_bytes());
     Ok(())
@@ -567,7 +662,32 @@ fn break_of<A: Abort>(rt: &A, alloc: Global, row: &Break) -> Mem<()> {
 #[test]
 fn breaks(rt: HostRuntime) -> Result<(), Fail> {
     for row in BREAKS.iter() {
-        break_of(&rt, rt.alloc(), row)?;
+        break_of(&rt, rt.alloc(), row.text, row.said)?;
     }
+    Ok(())
+}
+
+// A list of 65,536 items, one too many, and what stands before and behind it on its line.
+fn long_line(alloc: Global, before: &str, item: &str, after: &str) -> Mem<Vec<u8>> {
+    let mut line = Vec::new(alloc);
+    line.extend_from_slice(before.as_bytes())?;
+    for _ in 0..65_535 {
+        line.extend_from_slice(item.as_bytes())?;
+        line.extend_from_slice(b",")?;
+    }
+    line.extend_from_slice(item.as_bytes())?;
+    line.extend_from_slice(after.as_bytes())?;
+    Ok(line)
+}
+
+#[test]
+fn a_list_is_too_long(rt: HostRuntime) -> Result<(), Fail> {
+    let alloc = rt.alloc();
+    let refs = long_line(alloc, "w1 N", "n1", " v1 dV\n")?;
+    break_of(&rt, alloc, refs.as_slice(), "OverLimit at 3")?;
+    let tags = long_line(alloc, "n1 v1 T", "a=b", " dV\n")?;
+    break_of(&rt, alloc, tags.as_slice(), "OverLimit at 6")?;
+    let members = long_line(alloc, "r1 v1 dV M", "n1@", "")?;
+    break_of(&rt, alloc, members.as_slice(), "OverLimit at 9")?;
     Ok(())
 }
