@@ -1,0 +1,4 @@
+pub mod Order
+pub mod Tables
+pub mod Matching
+pub mod Readings
