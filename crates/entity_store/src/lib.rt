@@ -5,10 +5,13 @@
 //! their turns, and then a single pass, which only ever looks at the last entity, leaves what applying
 //! the lines one after another would have left. So a store costs a sort and no insertions, and no sort
 //! where the ids rise already. The layer above may rely on this: what is in a store is what `apply` of
-//! the lines says, and a look-up is what `find` over that list says.
+//! the lines says, and a look-up is what `find` over that list says. A `Look` answers from the same list,
+//! by the ids of objects and by the numbers of nodes.
 #![tactic(auto)]
 
 mod lines;
+mod look;
 mod store;
 
+pub use look::Look;
 pub use store::Store;

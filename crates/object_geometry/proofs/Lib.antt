@@ -1,0 +1,5 @@
+pub mod Derived
+mod Located
+mod Closed
+mod Places
+mod NextRule
