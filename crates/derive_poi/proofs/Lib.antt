@@ -1,0 +1,2 @@
+mod EachOnce
+mod Found
