@@ -1,0 +1,7 @@
+pub mod Bits
+pub mod Boxes
+pub mod Keys
+pub mod Levels
+pub mod Order
+pub mod Parts
+pub mod Walk

@@ -1,0 +1,4 @@
+pub mod Packing
+pub mod Search
+pub mod Trees
+pub mod Walk

@@ -1,0 +1,178 @@
+//! Trees of boxes.
+
+ghost use Rattle.std.specs.Prelude.{◌≡◌, ◌+◌, ◌*◌, ◌<◌, ◌≤◌, ◌/◌, IfOk, length, slice_get};
+ghost use Rattle.std.specs.Option.{option_map};
+ghost use Rattle.box_tree.specs.Trees.{around_both, around, children, node_above, level_above, levels_of};
+ghost use Rattle.box_tree.specs.Search.{first_meeting, nodes_meeting};
+
+use crate::FAN;
+use crate::search::{first_leaf, first_leaf_uncounted};
+use live_model::{List, Rect, Steps};
+use owned_data::Mem;
+use std::alloc::Global;
+use std::marker::Model;
+use std::sync::ledger::Ledger;
+
+/// A tree of boxes, seen as the list of its leaves. Above the leaves stand levels of nodes, each with the smallest
+/// box around eight of the level below, up to a single root.
+#[derive(Drop)]
+pub struct Tree {
+    levels: Vec<List<Rect>>,
+}
+
+impl Model for Tree {
+    ghost use Rattle.std.specs.Prelude.{◌≡◌, List};
+    ghost use Rattle.live_model.specs.declared.points.Rect.{Rect};
+    ghost use Rattle.box_tree.specs.Trees.{lowest, levels_of};
+
+    ghost Value = { List Rect };
+
+    ghost view = { λ t. lowest t.levels.items };
+
+    ghost invariant = { λ t. t.levels.items ≡ levels_of (lowest t.levels.items) };
+}
+
+impl Tree {
+    /// The tree over these leaves. It takes time and memory in proportion to their count.
+    pub fn build(alloc: Global, leaves: &[Rect]) -> Mem<Tree>
+        ensures { IfOk result (λ tree. tree ≡ leaves.now) }
+    {
+        let levels = built(alloc, leaves)?;
+        Ok(Tree { levels })
+    }
+
+    /// The leaves in order.
+    pub fn leaves(&self) -> &[Rect]
+        ensures { result.now ≡ self.now }
+    {
+        match self.levels.first() {
+            Some(leaves) => leaves.as_slice(),
+            None => &[],
+        }
+    }
+
+    /// How many levels there are, the leaves among them: none where there is no leaf.
+    pub fn height(&self) -> usize
+        ensures { result ≡ length (levels_of self.now) }
+    {
+        self.levels.len()
+    }
+
+    /// The boxes of a level: the leaves at the height 0, the root at the greatest. `None` exactly where the height is
+    /// not below that of the tree.
+    pub fn level(&self, height: usize) -> Option<&[Rect]>
+        ensures { option_map (λ level. level.now) result ≡ slice_get (levels_of self.now) height }
+    {
+        let level = self.levels.get(height)?;
+        Some(level.as_slice())
+    }
+
+    /// The place of the first leaf at or after `from` that meets the rectangle, edges included. `None` exactly where
+    /// there is none.
+    pub fn next_leaf(&self, rect: &Rect, from: usize) -> Option<usize>
+        ensures { result ≡ first_meeting self.now rect.now from }
+    {
+        first_leaf_uncounted(&self.levels, rect, from)
+    }
+
+    /// The same, with a step counted for each node that the search enters, the leaf among them. These are at most as
+    /// many as the nodes that meet the rectangle, in each level from the one on that leaf `from` is below.
+    pub fn next_leaf_counted<L: Ledger>(
+        &self,
+        rect: &Rect,
+        from: usize,
+        steps: &mut Steps<L>,
+    ) -> Option<usize>
+        ensures leaf { result ≡ first_meeting self.now rect.now from }
+        ensures steps { steps.new ≤ steps.old + nodes_meeting (levels_of self.now) rect.now from }
+    {
+        first_leaf(&self.levels, rect, from, steps)
+    }
+}
+
+/// The levels of the tree over these leaves.
+fn built(alloc: Global, leaves: &[Rect]) -> Mem<Vec<List<Rect>>>
+    ensures { IfOk result (λ all. all.items ≡ levels_of leaves.now) }
+{
+    let mut all = Vec::new(alloc);
+    if leaves.is_empty() {
+        return Ok(all);
+    }
+    let mut top = List::from_vec(Vec::from_slice(alloc, leaves)?);
+    'top: while top.len() > 1 {
+        let above = level_above(alloc, top.as_slice())?;
+        all.push(top)?;
+        top = above;
+    }
+    all.push(top)?;
+    Ok(all)
+}
+
+/// One node around each eight boxes.
+fn level_above(alloc: Global, boxes: &[Rect]) -> Mem<List<Rect>>
+    ensures { IfOk result (λ above. above ≡ level_above boxes.now) }
+{
+    let count = boxes.len().div_ceil(FAN);
+    let mut above = Vec::with_capacity(alloc, count)?;
+    for place in 0..count {
+        above.push(node_above(boxes, place))?;
+    }
+    Ok(List::from_vec(above))
+}
+
+/// The box of the node at a place of the level above.
+fn node_above(boxes: &[Rect], place: usize) -> Rect
+    requires { 8 * place < length boxes.now }
+    ensures { result ≡ node_above boxes.now place }
+{
+    around(children(boxes, place))
+}
+
+/// The children of the node at a place of the level above.
+fn children(boxes: &[Rect], place: usize) -> &[Rect]
+    requires { 8 * place < length boxes.now }
+    ensures { result.now ≡ children boxes.now place }
+{
+    let behind = &boxes[FAN * place..];
+    if behind.len() < FAN {
+        behind
+    } else {
+        &behind[..FAN]
+    }
+}
+
+/// The smallest box around these; of none, that of the corner.
+fn around(boxes: &[Rect]) -> Rect
+    ensures { result ≡ around boxes.now }
+{
+    let [first, others @ ..] = boxes else {
+        return CORNER;
+    };
+    let mut all = *first;
+    let mut others = others;
+    while let [next, rest @ ..] = others {
+        all = around_both(&all, next);
+        others = rest;
+    }
+    all
+}
+
+/// The box of the north-west corner.
+const CORNER: Rect = Rect {
+    left: 0,
+    top: 0,
+    right: 0,
+    bottom: 0,
+};
+
+/// The smallest box around two.
+fn around_both(one: &Rect, other: &Rect) -> Rect
+    ensures { result ≡ around_both one.now other.now }
+{
+    Rect {
+        left: one.left.min(other.left),
+        top: one.top.min(other.top),
+        right: one.right.max(other.right),
+        bottom: one.bottom.max(other.bottom),
+    }
+}
