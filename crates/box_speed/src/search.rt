@@ -1,0 +1,70 @@
+//! Questions for the boxes in a rectangle.
+
+use crate::Work;
+use crate::boxes::{Packed, boxed, in_order};
+use crate::state::next;
+use box_tree::Tree;
+use live_model::Rect;
+use owned_data::Mem;
+use std::alloc::Global;
+
+/// Asks the tree.
+pub fn find(alloc: Global, count: u32, asked: u32) -> Mem<Work> {
+    let packed = in_order(alloc, count)?;
+    let tree = Tree::build(alloc, &packed.boxes)?;
+    let mut work = Work { found: 0, sum: 0 };
+    let mut state = 7u64;
+    for _ in 0..asked {
+        let first = next(state);
+        state = next(first);
+        work = found(&tree, &packed, &boxed(first, state, 8_000_000), work);
+    }
+    Ok(work)
+}
+
+fn found(tree: &Tree, packed: &Packed, rect: &Rect, mut work: Work) -> Work {
+    let mut from = 0;
+    for _ in 0..packed.boxes.len() {
+        let Some(leaf) = tree.next_leaf(rect, from) else {
+            return work;
+        };
+        work = with(work, packed.positions.get(leaf).copied());
+        from = leaf.saturating_add(1);
+    }
+    work
+}
+
+/// Tests each box.
+pub fn scan(alloc: Global, count: u32, asked: u32) -> Mem<Work> {
+    let packed = in_order(alloc, count)?;
+    let mut work = Work { found: 0, sum: 0 };
+    let mut state = 7u64;
+    for _ in 0..asked {
+        let first = next(state);
+        state = next(first);
+        work = scanned(&packed, &boxed(first, state, 8_000_000), work);
+    }
+    Ok(work)
+}
+
+fn scanned(packed: &Packed, rect: &Rect, mut work: Work) -> Work {
+    for (place, one) in packed.boxes.iter().enumerate() {
+        if one.left <= rect.right
+            && rect.left <= one.right
+            && one.top <= rect.bottom
+            && rect.top <= one.bottom
+        {
+            work = with(work, packed.positions.get(place).copied());
+        }
+    }
+    work
+}
+
+fn with(work: Work, position: Option<usize>) -> Work {
+    Work {
+        found: work.found.wrapping_add(1),
+        sum: work
+            .sum
+            .wrapping_add(position.map_or(0, |position| position as u64)),
+    }
+}
