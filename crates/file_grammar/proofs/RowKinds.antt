@@ -1,0 +1,88 @@
+-- The key of a row fits what its field holds: a number has wire type 0, all else has a payload.
+use Rattle.std.proofs.Common.{◌≡◌, ℕ, zero, suc, ◌%◌, ◌^◌, ◌<◌, Bool, true, false, cond, [], ◌∷◌, Some, refl, subst}
+use Rattle.std.specs.Prelude.{◌==◌, ◌&&◌, not, nat_lt, flat_map, find}
+use Rattle.std.specs.List.{list_all}
+use Rattle.std.specs.Option.{option_map}
+use Rattle.std.proofs.lemmas.Bool.{ltb-true, eqb-true, not-true}
+use Rattle.obf_wire.specs.Fields.{payload_len}
+use Rattle.file_grammar.specs.declared.parts.Boxed.TheVariants.{Map, Poi, Road, Restriction}
+use Rattle.file_grammar.specs.declared.parts.Part.{Part}
+use Rattle.file_grammar.specs.declared.parts.Part.TheVariants.{File, Head, Boxes, Tree, Node, Block, Texts, Record, NoAddresses, NoRoads, NoBoxes, Nothing, Marks}
+use Rattle.file_grammar.specs.declared.parts.Content.{Content}
+use Rattle.file_grammar.specs.declared.parts.Content.TheVariants.{Number, Version, Bytes, Numbers, Message}
+use Rattle.file_grammar.specs.Tables.{Row, Table, tables, content_of}
+
+-- the wire type of a key is that of a content
+abbrev pub has_type : Content → ℕ → Bool
+has_type Number key = key % 8 == 0
+has_type Version key = key % 8 == 0
+has_type Bytes key = not (key % 8 == 0)
+has_type (Numbers group) key = not (key % 8 == 0)
+has_type (Message part) key = not (key % 8 == 0)
+
+-- the key is one of 64 bits, and of the type of its content
+abbrev fits_row : Row → Bool
+fits_row row = nat_lt row.key (2 ^ 64) && has_type row.content row.key
+
+-- the rows of all tables of a message
+abbrev rows_of : Part → Table
+rows_of part = flat_map (λ table. table) (tables part)
+
+rows_fit : (part : Part) → list_all fits_row (rows_of part) ≡ true
+rows_fit File = refl
+rows_fit Head = refl
+rows_fit (Boxes class) = refl
+rows_fit Tree = refl
+rows_fit (Node zero) = refl
+rows_fit (Node (suc levels)) = refl
+rows_fit (Block class) = refl
+rows_fit Texts = refl
+rows_fit (Record Map) = refl
+rows_fit (Record Poi) = refl
+rows_fit (Record Road) = refl
+rows_fit (Record Restriction) = refl
+rows_fit NoAddresses = refl
+rows_fit NoRoads = refl
+rows_fit NoBoxes = refl
+rows_fit Nothing = refl
+rows_fit Marks = refl
+
+both : (a b : Bool) → (a && b) ≡ true → (a ≡ true) × (b ≡ true)
+both true b e = (refl, e)
+both false b e = absurd cc
+
+-- what is said of a key and of the content of its row
+pub record FitsContent (key : ℕ) (content : Content) : Type 0 where
+  pub key_fits : key < 2 ^ 64
+  pub typed : has_type content key ≡ true
+
+content_is : (a b : Content) → Some a ≡ Some b → a ≡ b
+content_is a b e = cc
+
+row_fits : (row : Row) (key : ℕ) (content : Content) → fits_row row ≡ true → row.key ≡ key → row.content ≡ content → FitsContent key content
+row_fits row key content e key_is is =
+    let fits = both (nat_lt row.key (2 ^ 64)) (has_type row.content row.key) e in
+    subst (FitsContent key) is (subst (λ (k : ℕ). FitsContent k row.content) key_is (record { key_fits = ltb-true row.key (2 ^ 64) fits.0; typed = fits.1 }))
+
+-- the row that is found has this key
+found_fits : (rows : Table) (key : ℕ) (content : Content) → list_all fits_row rows ≡ true → option_map (λ row. row.content) (find (λ row. row.key == key) rows) ≡ Some content → FitsContent key content
+found_fits [] key content fits e = absurd cc
+found_fits (row ∷ rows) key content fits e = by_test (row.key == key) refl e (found_fits rows key content all.1)
+  where
+    all : (fits_row row ≡ true) × (list_all fits_row rows ≡ true)
+    all = both (fits_row row) (list_all fits_row rows) fits
+
+    by_test : (test : Bool) → (row.key == key) ≡ test → option_map (λ row. row.content) (cond test (Some row) (find (λ row. row.key == key) rows)) ≡ Some content
+        → (option_map (λ row. row.content) (find (λ row. row.key == key) rows) ≡ Some content → FitsContent key content) → FitsContent key content
+    by_test true is e others = row_fits row key content all.0 (eqb-true row.key key is) (content_is row.content content e)
+    by_test false is e others = others e
+
+pub content_fits : (part : Part) (key : ℕ) (content : Content) → content_of part key ≡ Some content → FitsContent key content
+content_fits part key content e = found_fits (rows_of part) key content (rows_fit part) e
+
+-- a number has no payload, and a payload is as long as the number before it says
+pub no_payload : (key value : ℕ) → (key % 8 == 0) ≡ true → payload_len key value ≡ 0
+no_payload key value e = rw e refl
+
+pub has_payload : (key value : ℕ) → not (key % 8 == 0) ≡ true → payload_len key value ≡ value
+has_payload key value e = rw (not-true (key % 8 == 0) e) refl

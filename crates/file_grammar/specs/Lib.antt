@@ -1,0 +1,9 @@
+pub mod Tables
+pub mod Messages
+pub mod Readings
+pub mod Walks
+pub mod Facts
+pub mod Sections
+pub mod BoxRules
+pub mod MapRules
+pub mod Files
