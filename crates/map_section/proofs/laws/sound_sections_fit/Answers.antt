@@ -1,0 +1,5 @@
+use Rattle.map_section.proofs.FittingRecords.{fitting}
+use Rattle.map_section.proofs.laws.sound_sections_fit.Goals as goal
+
+pub returns : goal.returns
+returns c = fitting

@@ -1,0 +1,13 @@
+pub mod Blocks
+pub mod Boxes
+pub mod EntryFacts
+pub mod Fields
+pub mod Listed
+pub mod Marked
+pub mod Pairs
+pub mod Sides
+pub mod Nodes
+pub mod Numbers
+pub mod Writing
+pub mod Packed
+pub mod Laws

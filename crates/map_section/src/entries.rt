@@ -1,0 +1,48 @@
+//! The fields of a map record.
+
+ghost use Rattle.std.specs.Prelude.{◌≡◌, ◌≤◌, Ok, length};
+ghost use Rattle.file_grammar.specs.declared.parts.Boxed.TheVariants.{Map};
+ghost use Rattle.file_grammar.specs.declared.parts.Part.TheVariants.{Record};
+ghost use Rattle.file_grammar.specs.MapRules.{map_fields};
+ghost use Rattle.file_grammar.specs.Messages.{Fields};
+ghost use Rattle.file_grammar.specs.Readings.{message_at};
+ghost use Rattle.file_grammar.specs.Sections.{step_of};
+ghost use Rattle.map_section.specs.Fields.{IsRead};
+
+use crate::fields::{Number, Payload, next_number, next_payload};
+use file_grammar::{Boxed, FieldWalk, Part};
+
+/// The fields of a map record: the step to its ordinal, the numbers of its rule, shape and name, and where
+/// the steps from point to point stand.
+#[derive(Clone, Copy, Debug)]
+pub(crate) struct EntryFields {
+    pub(crate) step: Number,
+    pub(crate) rule: Number,
+    pub(crate) shape: Number,
+    pub(crate) name: Number,
+    pub(crate) points: Payload,
+}
+
+/// The fields of the record that stands from `from` up to `to`.
+pub(crate) fn read_entry(bytes: &[u8], from: usize, to: usize) -> EntryFields
+    requires ordered { from ≤ to }
+    requires within { to ≤ length bytes.now }
+    ensures read { (fields : Fields) → message_at (Record Map) (record { bytes = bytes.now; place = from; end = to }) ≡ Ok fields → IsRead bytes.now result (map_fields fields) }
+    ensures step { (fields : Fields) → message_at (Record Map) (record { bytes = bytes.now; place = from; end = to }) ≡ Ok fields → result.step.value ≡ step_of fields }
+    ensures ordered { result.points.from ≤ result.points.to }
+    ensures within { result.points.to ≤ length bytes.now }
+{
+    let mut walk = FieldWalk::new(Part::Record(Boxed::Map), bytes, from, to);
+    let step = next_number(&mut walk);
+    let rule = next_number(&mut walk);
+    let shape = next_number(&mut walk);
+    let name = next_number(&mut walk);
+    let points = next_payload(&mut walk);
+    EntryFields {
+        step,
+        rule,
+        shape,
+        name,
+        points,
+    }
+}

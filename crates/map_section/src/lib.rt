@@ -1,0 +1,43 @@
+//! The section of map records in a file: records in blocks, under a tree of boxes.
+//!
+//! The one idea: records that lie close together stand close together. A writer packs them in the order of a curve through
+//! their middles, cuts that order into blocks of 64, and puts a tree of boxes over the blocks; a reader asks of bytes of good
+//! form whether all rules hold, and finds the first that fails. `specs/Packed.antt` says which bytes are written. What has to
+//! hold, and which records a section is, is said by the definitions of `file_grammar`, which later sections share.
+//!
+//! The layer above may rely on this: `write` appends exactly the packed bytes, or nothing; `form` and `sound` answer exactly whether the
+//! form is good and every rule holds, or the first break; and what is packed is of good form, sound, and read as the same records.
+#![tactic(auto)]
+
+mod block_bytes;
+mod blocks;
+mod edges;
+mod entries;
+mod fields;
+mod laws;
+mod list;
+mod marks;
+mod nodes;
+mod packing;
+mod points;
+mod record_rules;
+mod section;
+mod texts;
+mod trees;
+mod writing;
+
+pub use laws::{
+    any_order_packs_the_same, ordinals_name_objects, packed_sections_are_good,
+    packing_keeps_each_record, sound_sections_fit,
+};
+pub use section::{Section, form, sound};
+pub use writing::write;
+
+#[cfg(test)]
+mod hostile_tests;
+#[cfg(test)]
+mod list_tests;
+#[cfg(test)]
+mod tests;
+#[cfg(test)]
+mod write_tests;
