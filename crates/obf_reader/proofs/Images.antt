@@ -1,0 +1,133 @@
+-- A file that breaks no rule, and what its parts then are.
+use Rattle.std.proofs.Common.{◌≡◌, ◌≢◌, ◌<◌, ◌≤◌, length, get_or, ◌/◌, ◌%◌, ◌^◌, ◌*◌, ◌+◌, ◌-◌, ℕ, zero, suc, true, List, [], ◌∷◌, Option, Some, None, Result, Ok, Err, refl, sym, ap, subst, ◌∙◌, inl, inr, arith}
+use Rattle.std.specs.Prelude.{ℤ, pos, negsuc, unsigned_abs, is_some, nat_le, unwrap_or, slice_get, MatchOption, map}
+use Rattle.std.specs.List.{list_all}
+use Rattle.std.proofs.lemmas.Bool.{and_parts, cases_lt, leb-true}
+use Rattle.live_model.specs.declared.ids.Kind.{Kind}
+use Rattle.live_model.specs.declared.ids.Kind.TheVariants.{Node, Way, Relation}
+use Rattle.live_model.specs.declared.rules.Rule.{Rule}
+use Rattle.live_model.specs.Ids.{Id, IsId, ordinal, rank}
+use Rattle.obf_wire.specs.declared.file.FileBreak.{FileBreak}
+use Rattle.file_grammar.specs.BoxRules.{is_ordinal}
+use Rattle.file_grammar.specs.Facts.{AllHold, first_failing}
+use Rattle.file_grammar.specs.Files.{FileParts, break_in_file, facts_in, file_break, file_facts, file_in, is_head, rise_strictly, rules_in, whole}
+use Rattle.file_grammar.specs.declared.parts.Part.TheVariants.{File}
+use Rattle.file_grammar.specs.Messages.{Fields}
+use Rattle.file_grammar.specs.Readings.{IsInMemory, message_at}
+use Rattle.file_grammar.specs.MapRules.{map_records_in}
+use Rattle.file_grammar.specs.Sections.{section_in}
+use Rattle.file_grammar.proofs.ReadIsSpelled.{read_is_spelled}
+use Rattle.live_model.specs.declared.records.Rec.TheVariants.{Map}
+use Rattle.live_model.specs.Maps.{in_order}
+use Rattle.obf_reader.specs.Images.{IsImage, IsImageFile, Seen}
+use Rattle.file_grammar.proofs.Earlier.{one_first_break_law}
+
+-- ---- files
+
+read_of : (r : Result Fields FileBreak) → break_in_file r ≡ None → (fields : Fields) × (r ≡ Ok fields)
+read_of (Ok fields) e = (fields, refl)
+read_of (Err b) e = absurd cc
+
+-- what has to hold of a file outside its map section
+pub record AreSound (parts : FileParts) : Type 0 where
+  pub head : is_head parts.head.value ≡ true
+  pub rules : is_some (rules_in parts.rules.value) ≡ true
+  pub rise : rise_strictly parts.marks.value ≡ true
+  pub ordinals : list_all is_ordinal parts.marks.value ≡ true
+
+sound_of : (parts : FileParts) → AllHold (file_facts parts) → AreSound parts
+unfolding file_facts
+sound_of parts all = record { head = all.0; rules = all.1.0; rise = all.1.1.1.0; ordinals = all.1.1.1.1.0 }
+
+-- what has to hold of a file that breaks no rule
+all_hold : (fields : Fields) (parts : FileParts) → first_failing (facts_in (file_in fields)) ≡ None → file_in fields ≡ Some parts → AllHold (file_facts parts)
+all_hold fields parts none are =
+    (one_first_break_law (file_facts parts)).none.0 (ap (λ (o : Option FileParts). first_failing (facts_in o)) (sym are) ∙ none)
+
+-- the bytes are of good form, and their parts are sound
+pub record IsSoundFile (bytes : List ℕ) : Type 0 where
+  pub fields : Fields
+  pub form : message_at File (whole bytes) ≡ Ok fields
+  pub sound : (parts : FileParts) → file_in fields ≡ Some parts → AreSound parts
+
+pub sound_file : (bytes : List ℕ) → file_break bytes ≡ None → IsSoundFile bytes
+sound_file bytes e =
+    let r = read_of (message_at File (whole bytes)) e in
+    let none : first_failing (facts_in (file_in r.0)) ≡ None = ap break_in_file (sym r.1) ∙ e in
+    record {
+      fields = r.0;
+      form = r.1;
+      sound = λ parts are.
+          sound_of parts (all_hold r.0 parts none are);
+    }
+
+-- an image is that of a file
+pub file_of : (image : Seen) → IsImage image → IsInMemory (whole image.bytes) → IsImageFile image
+file_of image i memory =
+    let h = i.holds in
+    let s = read_is_spelled File None (whole image.bytes) h.fields memory h.form in
+    let none : first_failing (facts_in (file_in h.fields)) ≡ None = ap break_in_file (sym h.form) ∙ i.unbroken in
+    record {
+      records = in_order (map Map (map_records_in (section_in h.parts.map)));
+      file = record {
+        fields = h.fields;
+        parts = h.parts;
+        form = record { form = s.form; spelled = s.spelled };
+        parts_are = h.are;
+        sound = all_hold h.fields h.parts none h.are;
+        head_is = h.head.0;
+        rules_are = h.rules;
+        marks_are = h.marks;
+        records_are = refl;
+      };
+    }
+
+pub some_rules : (r : Option (List Rule)) (rules : List Rule) → is_some r ≡ true → rules ≡ unwrap_or r [] → r ≡ Some rules
+some_rules (Some x) rules e f = ap (λ (rules : List Rule). Some rules) (sym f)
+some_rules None rules e f = absurd cc
+
+-- ---- marks
+
+-- the number of an object whose ordinal lies that far behind the first of its kind
+number_at : (low : ℕ) → low ≤ 2 ^ 49 → (z : ℤ) × (unsigned_abs z ≤ 2 ^ 48) × ((kind : Kind) → ordinal (record { kind = kind; number = z }) ≡ rank kind * 2 ^ 50 + low)
+number_at low most =
+    elim (cases_lt low (2 ^ 48)) [
+      | inl less ↦ (negsuc (2 ^ 48 - low - 1), omega arith, λ kind. omega arith)
+      | inr more ↦ (pos (low - 2 ^ 48), omega arith, λ kind. omega arith)
+    ]
+
+kind_at : (n : ℕ) → n ≤ 2 → (kind : Kind) × (rank kind ≡ n)
+kind_at zero e = (Node, refl)
+kind_at (suc zero) e = (Way, refl)
+kind_at (suc (suc zero)) e = (Relation, refl)
+kind_at (suc (suc (suc n))) e = absurd (omega arith)
+
+-- an ordinal is that of an object
+object_at : (n : ℕ) → is_ordinal n ≡ true → (o : Id) × IsId o × (ordinal o ≡ n)
+object_at n e =
+    let p = and_parts (nat_le (n / 2 ^ 50) 2) (nat_le (n % 2 ^ 50) (2 ^ 49)) e in
+    let kind = kind_at (n / 2 ^ 50) (leb-true (n / 2 ^ 50) 2 p.0) in
+    let number = number_at (n % 2 ^ 50) (leb-true (n % 2 ^ 50) (2 ^ 49) p.1) in
+    let is : rank kind.0 * 2 ^ 50 + n % 2 ^ 50 ≡ n = omega (arith, kind.1) in
+    (record { kind = kind.0; number = number.0 }, number.1, number.2 kind.0 ∙ is)
+
+each_at : (marks : List ℕ) (index mark : ℕ) → list_all is_ordinal marks ≡ true → slice_get marks index ≡ Some mark → is_ordinal mark ≡ true
+each_at [] index mark all e = absurd cc
+each_at (m ∷ ms) zero mark all e = let same : m ≡ mark = cc in subst (λ (n : ℕ). is_ordinal n ≡ true) same (and_parts (is_ordinal m) (list_all is_ordinal ms) all).0
+each_at (m ∷ ms) (suc index) mark all e = each_at ms index mark (and_parts (is_ordinal m) (list_all is_ordinal ms) all).1 e
+
+-- the mark at a place is the ordinal of the object that was found
+pub mark_found : (marks : List ℕ) (index mark : ℕ) (r : Option Id) → list_all is_ordinal marks ≡ true → slice_get marks index ≡ Some mark
+    → MatchOption r ((o : Id) → IsId o → ordinal o ≢ mark) (λ o. IsId o × (ordinal o ≡ mark)) → MatchOption r (slice_get marks index ≡ None) (λ id. slice_get marks index ≡ Some (ordinal id))
+mark_found marks index mark (Some o) all e found = e ∙ ap (λ (n : ℕ). Some n) (sym found.1)
+mark_found marks index mark None all e none = let o = object_at mark (each_at marks index mark all e) in absurd (none o.0 o.1 o.2)
+
+pub some_at : (xs : List ℕ) (i m : ℕ) → i < length xs → m ≡ get_or xs i m → slice_get xs i ≡ Some m
+some_at [] i m inside e = absurd (omega arith)
+some_at (x ∷ xs) zero m inside e = ap (λ (n : ℕ). Some n) (sym e)
+some_at (x ∷ xs) (suc i) m inside e = some_at xs i m (omega arith) e
+
+pub none_at : (xs : List ℕ) (i : ℕ) → length xs ≤ i → slice_get xs i ≡ None
+none_at [] i behind = refl
+none_at (x ∷ xs) zero behind = absurd (omega arith)
+none_at (x ∷ xs) (suc i) behind = none_at xs i (omega arith)

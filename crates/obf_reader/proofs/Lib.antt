@@ -1,0 +1,9 @@
+pub mod Asked
+pub mod FileShape
+pub mod HeadNumbers
+pub mod Hours
+pub mod Images
+pub mod MarkLists
+pub mod NumberLists
+pub mod RuleTexts
+pub mod Spread

@@ -1,0 +1,5 @@
+pub mod Heads
+pub mod Images
+pub mod MarkLists
+pub mod Parts
+pub mod Spread

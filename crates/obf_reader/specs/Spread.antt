@@ -1,0 +1,58 @@
+-- Where the parts of a file stand among its bytes.
+use Rattle.std.specs.Prelude.{◌≡◌, ◌≤◌, ℕ, List, length, slice_range, Some, Ok}
+use Rattle.obf_wire.specs.Fields.{Window}
+use Rattle.file_grammar.specs.declared.parts.Boxed.TheVariants.{Map}
+use Rattle.file_grammar.specs.declared.parts.Part.TheVariants.{Boxes, Head, Marks}
+use Rattle.file_grammar.specs.Files.{FileParts, HeadNumbers, file_in, head_in, marks_in, sums_from}
+use Rattle.file_grammar.specs.Messages.{Fields}
+use Rattle.file_grammar.specs.Readings.{message_at, numbers_at}
+use Rattle.file_grammar.specs.Sections.{placed}
+use Rattle.obf_reader.specs.declared.fields.Payload.{Payload}
+use Rattle.obf_reader.specs.declared.heads.HeadNumbers.{HeadNumbers as HeadRead}
+use Rattle.obf_reader.specs.declared.spans.Spans.{Spans}
+
+-- the part of the bytes that is a payload
+abbrev pub window_of : List ℕ → Payload → Window
+window_of bytes p = record { bytes = bytes; place = p.from; end = p.to }
+
+-- the payload lies within the bytes
+abbrev pub IsInBytes : List ℕ → Payload → Type 0
+IsInBytes bytes p = (p.from ≤ p.to) × (p.to ≤ length bytes)
+
+-- all payloads do
+pub record AreInside (bytes : List ℕ) (s : Spans) : Type 0 where
+  pub head : IsInBytes bytes s.head
+  pub rules : IsInBytes bytes s.rules
+  pub map : IsInBytes bytes s.map
+  pub marks : IsInBytes bytes s.marks
+
+-- the parts of a file stand at these places
+pub record IsSpread (bytes : List ℕ) (s : Spans) (fields : Fields) : Type 0 where
+  pub parts : FileParts
+  pub are : file_in fields ≡ Some parts
+  pub head : Fields
+  pub head_at : s.head.at ≡ parts.head.at
+  pub head_read : message_at Head (window_of bytes s.head) ≡ Ok head
+  pub head_is : parts.head.value ≡ head_in head
+  pub rules_at : s.rules.at ≡ parts.rules.at
+  pub rules : slice_range bytes s.rules.from s.rules.to ≡ parts.rules.value
+  pub map : message_at (Boxes Map) (window_of bytes s.map) ≡ Ok parts.map
+  pub marks : Fields
+  pub marks_read : message_at Marks (window_of bytes s.marks) ≡ Ok marks
+  pub marks_are : parts.marks ≡ marks_in marks
+  pub again_at : s.again.at ≡ parts.again.at
+  pub again : s.again.value ≡ parts.again.value
+
+-- the marks are those of the differences that stand in this payload
+pub record HoldsMarks (bytes : List ℕ) (list : Payload) (inner : Fields) : Type 0 where
+  pub steps : List ℕ
+  pub marks : marks_in inner ≡ placed list.at (sums_from 0 steps)
+  pub read : numbers_at (window_of bytes list) ≡ Ok steps
+
+-- the numbers as a file holds them
+abbrev pub seen_numbers : HeadRead → HeadNumbers
+seen_numbers n = record { level = n.level; first = n.first; last = n.last }
+
+-- the numbers of a head
+abbrev pub HoldsHead : HeadRead → Fields → Type 0
+HoldsHead n inner = seen_numbers n ≡ head_in inner
