@@ -1,0 +1,111 @@
+//! A whole file.
+
+ghost use Rattle.std.specs.Prelude.{◌≡◌, ◌≢◌, ◌++◌, [], map, Contains, IfOk, OnOk};
+ghost use Rattle.std.specs.List.{AllByRecursion};
+ghost use Rattle.std.specs.List.Sorted.{IsSorted};
+ghost use Rattle.std.specs.Ordering.{nat_cmp};
+ghost use Rattle.live_model.specs.declared.levels.Level.TheVariants.{Base};
+ghost use Rattle.live_model.specs.Fits.{FitsMap};
+ghost use Rattle.live_model.specs.Ids.{ordinal};
+ghost use Rattle.live_model.specs.Ordered.{IsRisingBy};
+ghost use Rattle.live_model.specs.Records.{map_cmp};
+ghost use Rattle.live_model.specs.Rules.{rules_text};
+ghost use Rattle.stamp_core.specs.Heads.{IsGoodHead};
+ghost use Rattle.file_grammar.specs.Files.{head_numbers, hour_number};
+ghost use Rattle.obf_wire.specs.Fields.{section};
+ghost use Rattle.map_section.specs.Packed.{number_field, short_field};
+ghost use Rattle.obf_writer.specs.PackedFile.{head_bytes, no_addresses, no_roads, packed_file};
+
+use crate::fields::{put_number, put_short};
+use crate::marks::marks_bytes;
+use live_model::{MapRec, ObjId};
+use obf_wire::Out;
+use owned_data::Mem;
+use stamp_core::{Head, Stamp};
+use std::alloc::Global;
+use tag_rules::Rules;
+
+/// The version of the format, which stands at the beginning and again at the end.
+const VERSION: u64 = 1;
+
+/// The section of addresses without any: no names, and no houses.
+const NO_ADDRESSES: [u8; 18] = [14, 0, 0, 0, 0, 0, 0, 0, 0, 22, 0, 0, 0, 0, 0, 0, 0, 0];
+
+/// The section of roads without any: no roads and no restrictions, each with an empty tree.
+const NO_ROADS: [u8; 36] = [
+    14, 0, 0, 0, 0, 0, 0, 0, 9, 14, 0, 0, 0, 0, 0, 0, 0, 0, 22, 0, 0, 0, 0, 0, 0, 0, 9, 14, 0, 0,
+    0, 0, 0, 0, 0, 0,
+];
+
+/// The bytes of a file of these parts: what it covers, the rules, the marks, which are the objects that it says something
+/// of, and the records. It takes map records alone: the sections of other records are written empty.
+///
+/// The head is good. The marks rise strictly in the order of ids, and a base has none. The records stand in the order of
+/// records, equal ones side by side, and fit the rules; above a base each is of an object with a mark.
+/// `NoMemory` is the only error. It takes n log n time.
+pub fn write_file(
+    alloc: Global,
+    head: &Head,
+    rules: &Rules,
+    marks: &[ObjId],
+    records: &[MapRec],
+) -> Mem<Vec<u8>>
+    requires good { IsGoodHead head.now }
+    requires rise { IsRisingBy nat_cmp ordinal marks.now }
+    requires base { head.now.level ≡ Base → marks.now ≡ [] }
+    requires sorted { IsSorted map_cmp records.now }
+    requires fit { AllByRecursion (FitsMap rules.now) records.now }
+    requires marked { head.now.level ≢ Base → AllByRecursion (λ m. Contains marks.now m.id) records.now }
+    ensures { IfOk result (λ bytes. bytes.items ≡ packed_file (head_numbers head.now) rules.now (map ordinal marks.now) records.now) }
+{
+    let mut map = Vec::new(alloc);
+    map_section::write(alloc, records, rules, &mut map)?;
+    let marks = marks_bytes(alloc, marks)?;
+    let mut out = Out::new(alloc);
+    put_front(alloc, head, rules, &mut out)?;
+    out.put_section(6, &map)?;
+    put_empty_sections(&mut out)?;
+    out.put_section(16, &marks)?;
+    put_number(32, VERSION, &mut out)?;
+    Ok(out.finish())
+}
+
+/// Appends the version, the head and the rules.
+fn put_front(alloc: Global, head: &Head, rules: &Rules, out: &mut Out) -> Mem<()>
+    ensures { OnOk result (out.new ≡ out.old ++ number_field 1 1 ++ short_field 2 (head_bytes (head_numbers head.now)) ++ short_field 3 (rules_text rules.now)) }
+{
+    let head = head_bytes(alloc, head)?;
+    put_number(1, VERSION, out)?;
+    put_short(2, &head, out)?;
+    put_short(3, rules.text(), out)
+}
+
+/// The level, and the numbers of the first hour and the last.
+fn head_bytes(alloc: Global, head: &Head) -> Mem<Vec<u8>>
+    ensures { IfOk result (λ bytes. bytes.items ≡ head_bytes (head_numbers head.now)) }
+{
+    let mut out = Out::new(alloc);
+    put_number(1, head.level.number(), &mut out)?;
+    put_number(2, hour_number(head.first), &mut out)?;
+    put_number(3, hour_number(head.last), &mut out)?;
+    Ok(out.finish())
+}
+
+/// The number of an hour; 0, which no hour has, where there is none.
+fn hour_number(hour: Option<Stamp>) -> u64
+    ensures { result ≡ hour_number hour }
+{
+    match hour {
+        Some(stamp) => stamp.number(),
+        None => 0,
+    }
+}
+
+/// Appends the sections of addresses, points of interest and roads, which are empty.
+fn put_empty_sections(out: &mut Out) -> Mem<()>
+    ensures { OnOk result (out.new ≡ out.old ++ section 7 no_addresses ++ section 8 [] ++ section 9 no_roads) }
+{
+    out.put_section(7, &NO_ADDRESSES)?;
+    out.put_section(8, &[])?;
+    out.put_section(9, &NO_ROADS)
+}
