@@ -1,31 +1,51 @@
 //! Questions for the boxes in a rectangle.
 
+ghost use Rattle.std.specs.Prelude.{◌≡◌, ◌<◌};
+
 use crate::Work;
 use crate::boxes::{Packed, boxed, in_order};
 use crate::state::next;
 use box_tree::Tree;
-use live_model::Rect;
+use live_model::{Rect, Steps};
 use owned_data::Mem;
 use std::alloc::Global;
+use std::marker::Brand;
+use std::sync::ledger::{Blank, Ledger};
 
-/// Asks the tree.
+/// Asks the tree, and counts no steps.
 pub fn find(alloc: Global, count: u32, asked: u32) -> Mem<Work> {
     let packed = in_order(alloc, count)?;
     let tree = Tree::build(alloc, &packed.boxes)?;
+    Ok(asked_often::<Brand>(&tree, &packed, asked, Blank::new(1)))
+}
+
+fn asked_often<L: Ledger>(tree: &Tree, packed: &Packed, asked: u32, blank: Blank) -> Work
+    requires name { blank.name ≡ L.name }
+    requires parts { blank.parts ≡ L.parts }
+    requires some { 0 < blank.parts }
+{
+    let mut steps = Steps::<L>::new(blank);
     let mut work = Work { found: 0, sum: 0 };
     let mut state = 7u64;
     for _ in 0..asked {
         let first = next(state);
         state = next(first);
-        work = found(&tree, &packed, &boxed(first, state, 8_000_000), work);
+        let rect = boxed(first, state, 8_000_000);
+        work = found(tree, packed, &rect, work, &mut steps);
     }
-    Ok(work)
+    work
 }
 
-fn found(tree: &Tree, packed: &Packed, rect: &Rect, mut work: Work) -> Work {
+fn found<L: Ledger>(
+    tree: &Tree,
+    packed: &Packed,
+    rect: &Rect,
+    mut work: Work,
+    steps: &mut Steps<L>,
+) -> Work {
     let mut from = 0;
     for _ in 0..packed.boxes.len() {
-        let Some(leaf) = tree.next_leaf(rect, from) else {
+        let Some(leaf) = tree.next_leaf(rect, from, steps) else {
             return work;
         };
         work = with(work, packed.positions.get(leaf).copied());

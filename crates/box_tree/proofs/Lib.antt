@@ -1,5 +1,6 @@
 pub mod Bits
 pub mod Boxes
+pub mod Found
 pub mod Keys
 pub mod Levels
 pub mod Order

@@ -64,10 +64,10 @@ all_below levels h i tree low lt =
     let d : Rect = record { left = 0; top = 0; right = 0; bottom = 0 } in
     (div-lt_iff_lt-mul {k = 8 ^ h} {x = i} {y = length (nodes_at levels h)} (some_eights h)).0 (above_leaf levels h i d tree low lt).0
 
-same_node : (h c : ℕ) → c * 8 ^ h / 8 ^ h ≡ c
+pub same_node : (h c : ℕ) → c * 8 ^ h / 8 ^ h ≡ c
 same_node h c = below_node h c (c * 8 ^ h) (omega arith) (omega (arith, some_eights h))
 
-eight_times : (h c : ℕ) → 8 * c * 8 ^ h ≡ c * 8 ^ suc h
+pub eight_times : (h c : ℕ) → 8 * c * 8 ^ h ≡ c * 8 ^ suc h
 eight_times h c = omega (arith, ap (λ (n : ℕ). c * n) (pow-suc 8 h))
 
 -- ---- counts
@@ -169,7 +169,7 @@ below_children leaves rect h c r is =
 
 -- ---- among the nodes of a height
 
-scaled : (h a b : ℕ) → a ≤ b → a * 8 ^ h ≤ b * 8 ^ h
+pub scaled : (h a b : ℕ) → a ≤ b → a * 8 ^ h ≤ b * 8 ^ h
 scaled h a b le = mul-le-mul_right (8 ^ h) le
 
 -- nothing lies before the first node
@@ -257,7 +257,7 @@ climb_leaf_steps levels rect from d lt low meets =
     omega (arith, one, front)
 
 -- where the climb comes from
-climbed : (from h place : ℕ) → place ≡ from / 8 ^ h → from ≤ (place + 1) * 8 ^ h
+pub climbed : (from h place : ℕ) → place ≡ from / 8 ^ h → from ≤ (place + 1) * 8 ^ h
 climbed from h place here =
     let below : from < (place + 1) * 8 ^ h = (div-lt_iff_lt-mul {k = 8 ^ h} {x = from} {y = place + 1} (some_eights h)).0 (omega arith) in
     omega arith

@@ -22,3 +22,10 @@ unfoldable pub nodes_until : List (List Rect) → Rect → ℕ → ℕ → ℕ �
 nodes_until levels rect zero from to = meeting_between (nodes_at levels zero) rect from to
 nodes_until levels rect (suc height) from to =
     meeting_between (nodes_at levels (suc height)) rect (from / 8 ^ suc height) to + nodes_until levels rect height from (8 * to)
+
+-- how many nodes meet the rectangle, in each level up to a height, from the node that the leaf `from` is below to the one that
+-- the leaf `to` is below
+unfoldable pub nodes_up_to : List (List Rect) → Rect → ℕ → ℕ → ℕ → ℕ
+nodes_up_to levels rect zero from to = meeting_between (nodes_at levels zero) rect from (to + 1)
+nodes_up_to levels rect (suc height) from to =
+    meeting_between (nodes_at levels (suc height)) rect (from / 8 ^ suc height) (to / 8 ^ suc height + 1) + nodes_up_to levels rect height from to

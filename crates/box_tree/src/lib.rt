@@ -6,7 +6,7 @@
 //! these, so that a writer may put them to bytes and a reader may test them.
 //!
 //! The layer above may rely on this: a packing holds each position once, and a search answers exactly the first leaf
-//! at or after a place that meets the rectangle, and enters no node that does not meet it.
+//! at or after a place that meets the rectangle, and enters no node that does not meet it, and none behind that leaf.
 #![tactic(auto)]
 
 mod laws;

@@ -1,41 +1,15 @@
 //! The search for the first leaf that meets a rectangle.
 
-ghost use Rattle.std.specs.Prelude.{◌≡◌, ◌+◌, ◌*◌, ◌/◌, ◌^◌, ◌<◌, ◌≤◌, length, slice_index_or};
+ghost use Rattle.std.specs.Prelude.{◌≡◌, ◌+◌, ◌*◌, ◌/◌, ◌^◌, ◌<◌, ◌≤◌, length, slice_index_or, IfSome};
 ghost use Rattle.live_model.specs.declared.points.Rect.{Rect};
 ghost use Rattle.live_model.specs.Points.{overlaps};
 ghost use Rattle.box_tree.specs.Trees.{levels_of, lowest};
-ghost use Rattle.box_tree.specs.Search.{first_meeting, nodes_meeting};
-ghost use Rattle.box_tree.specs.Walk.{nodes_at, first_between, meeting_between, nodes_until};
+ghost use Rattle.box_tree.specs.Search.{first_meeting, nodes_between, nodes_meeting};
+ghost use Rattle.box_tree.specs.Walk.{nodes_at, first_between, meeting_between, nodes_until, nodes_up_to};
 
 use crate::FAN;
 use live_model::{List, Rect, Steps};
-use std::marker::Brand;
-use std::sync::ledger::{Blank, Ledger};
-
-/// The first leaf at or after `from` that meets the rectangle, with no steps counted.
-pub fn first_leaf_uncounted(levels: &[List<Rect>], rect: &Rect, from: usize) -> Option<usize>
-    requires { levels.now ≡ levels_of (lowest levels.now) }
-    ensures { result ≡ first_meeting (lowest levels.now) rect.now from }
-{
-    with_blank::<Brand>(levels, rect, from, Blank::new(1))
-}
-
-/// The first leaf, with its steps counted in a ledger that is let go.
-fn with_blank<L: Ledger>(
-    levels: &[List<Rect>],
-    rect: &Rect,
-    from: usize,
-    blank: Blank,
-) -> Option<usize>
-    requires tree { levels.now ≡ levels_of (lowest levels.now) }
-    requires name { blank.name ≡ L.name }
-    requires parts { blank.parts ≡ L.parts }
-    requires some { 0 < blank.parts }
-    ensures { result ≡ first_meeting (lowest levels.now) rect.now from }
-{
-    let mut steps = Steps::<L>::new(blank);
-    first_leaf(levels, rect, from, &mut steps)
-}
+use std::sync::ledger::Ledger;
 
 /// The first leaf at or after `from` that meets the rectangle.
 ///
@@ -50,6 +24,7 @@ pub fn first_leaf<L: Ledger>(
     requires { levels.now ≡ levels_of (lowest levels.now) }
     ensures leaf { result ≡ first_meeting (lowest levels.now) rect.now from }
     ensures steps { steps.new ≤ steps.old + nodes_meeting levels.now rect.now from }
+    ensures found { IfSome result (λ leaf. steps.new ≤ steps.old + nodes_between levels.now rect.now from leaf) }
 {
     if levels.is_empty() || from >= nodes(levels, 0).len() {
         return None;
@@ -82,6 +57,7 @@ fn first_beside<L: Ledger>(
     requires within { place < length (nodes_at levels.now height) }
     ensures leaf { result ≡ first_between (lowest levels.now) rect.now ((place + 1) * 8 ^ height) ((place / 8 + 1) * 8 ^ (height + 1)) }
     ensures steps { steps.new ≤ steps.old + (meeting_between (nodes_at levels.now (height + 1)) rect.now (place / 8) (place / 8 + 1) + nodes_until levels.now rect.now height ((place + 1) * 8 ^ height) (8 * (place / 8 + 1))) }
+    ensures found { IfSome result (λ leaf. steps.new ≤ steps.old + (meeting_between (nodes_at levels.now (height + 1)) rect.now (place / 8) (place / 8 + 1) + nodes_up_to levels.now rect.now height ((place + 1) * 8 ^ height) leaf)) }
 {
     let parent = place / FAN;
     if !node_meets(levels, height + 1, parent, rect) {
@@ -106,6 +82,7 @@ fn first_among<L: Ledger>(
     requires ordered { from ≤ to }
     ensures leaf { result ≡ first_between (lowest levels.now) rect.now (from * 8 ^ height) (to * 8 ^ height) }
     ensures steps { steps.new ≤ steps.old + nodes_until levels.now rect.now height (from * 8 ^ height) to }
+    ensures found { IfSome result (λ leaf. steps.new ≤ steps.old + nodes_up_to levels.now rect.now height (from * 8 ^ height) leaf) }
 {
     let end = to.min(nodes(levels, height).len());
     for place in from..end {
@@ -131,6 +108,7 @@ fn first_below<L: Ledger>(
     requires within { place < length (nodes_at levels.now height) }
     ensures leaf { result ≡ first_between (lowest levels.now) rect.now (place * 8 ^ height) ((place + 1) * 8 ^ height) }
     ensures steps { steps.new ≤ steps.old + nodes_until levels.now rect.now height (place * 8 ^ height) (place + 1) }
+    ensures found { IfSome result (λ leaf. steps.new ≤ steps.old + nodes_up_to levels.now rect.now height (place * 8 ^ height) leaf) }
 {
     if !node_meets(levels, height, place, rect) {
         return None;

@@ -113,20 +113,33 @@ fn blocks_of_a_grid_are_squares(rt: HostRuntime) -> Result<(), Fail> {
     Ok(())
 }
 
+fn counted<L: Ledger>(tree: &Tree, rect: &Rect, from: usize, blank: Blank) -> Option<usize>
+    requires name { blank.name ≡ L.name }
+    requires parts { blank.parts ≡ L.parts }
+    requires some { 0 < blank.parts }
+{
+    let mut steps = Steps::<L>::new(blank);
+    tree.next_leaf(rect, from, &mut steps)
+}
+
+fn next_leaf(tree: &Tree, rect: &Rect, from: usize) -> Option<usize> {
+    counted::<Brand>(tree, rect, from, Blank::new(1))
+}
+
 #[test]
 fn a_corner_of_four_squares_meets_these(rt: HostRuntime) -> Result<(), Fail> {
     let tree = Tree::build(rt.alloc(), &blocks(rt.alloc())?)?;
     shared(&tree);
     let corner = rect(496, 496, 512, 512);
-    assert_eq!(rt; tree.next_leaf(&corner, 0), Some(15));
-    assert_eq!(rt; tree.next_leaf(&corner, 15), Some(15));
-    assert_eq!(rt; tree.next_leaf(&corner, 16), Some(26));
-    assert_eq!(rt; tree.next_leaf(&corner, 27), Some(37));
-    assert_eq!(rt; tree.next_leaf(&corner, 38), Some(48));
-    assert_eq!(rt; tree.next_leaf(&corner, 49), None);
-    assert_eq!(rt; tree.next_leaf(&rect(497, 497, 511, 511), 0), None);
-    assert_eq!(rt; tree.next_leaf(&rect(0, 0, 1008, 1008), 63), Some(63));
-    assert_eq!(rt; tree.next_leaf(&rect(0, 0, 1008, 1008), 64), None);
+    assert_eq!(rt; next_leaf(&tree, &corner, 0), Some(15));
+    assert_eq!(rt; next_leaf(&tree, &corner, 15), Some(15));
+    assert_eq!(rt; next_leaf(&tree, &corner, 16), Some(26));
+    assert_eq!(rt; next_leaf(&tree, &corner, 27), Some(37));
+    assert_eq!(rt; next_leaf(&tree, &corner, 38), Some(48));
+    assert_eq!(rt; next_leaf(&tree, &corner, 49), None);
+    assert_eq!(rt; next_leaf(&tree, &rect(497, 497, 511, 511), 0), None);
+    assert_eq!(rt; next_leaf(&tree, &rect(0, 0, 1008, 1008), 63), Some(63));
+    assert_eq!(rt; next_leaf(&tree, &rect(0, 0, 1008, 1008), 64), None);
     Ok(())
 }
 
@@ -153,27 +166,10 @@ fn small_trees(rt: HostRuntime) -> Result<(), Fail> {
     assert_eq!(rt; none.height(), 0);
     assert_eq!(rt; none.leaves().len(), 0);
     assert!(rt; none.level(0).is_none());
-    assert_eq!(rt; none.next_leaf(&rect(0, 0, u32::MAX, u32::MAX), 0), None);
+    assert_eq!(rt; next_leaf(&none, &rect(0, 0, u32::MAX, u32::MAX), 0), None);
     let one = Tree::build(rt.alloc(), &[point(5, 6)])?;
     assert_eq!(rt; one.height(), 1);
-    assert_eq!(rt; one.next_leaf(&rect(5, 0, 9, 6), 0), Some(0));
-    assert_eq!(rt; one.next_leaf(&rect(6, 0, 9, 6), 0), None);
-    Ok(())
-}
-
-fn counted<L: Ledger>(tree: &Tree, rect: &Rect, blank: Blank) -> Option<usize>
-    requires name { blank.name ≡ L.name }
-    requires parts { blank.parts ≡ L.parts }
-    requires some { 0 < blank.parts }
-{
-    let mut steps = Steps::<L>::new(blank);
-    tree.next_leaf_counted(rect, 16, &mut steps)
-}
-
-#[test]
-fn a_counted_search_answers_the_same(rt: HostRuntime) -> Result<(), Fail> {
-    let tree = Tree::build(rt.alloc(), &blocks(rt.alloc())?)?;
-    let found = counted::<Brand>(&tree, &rect(496, 496, 512, 512), Blank::new(1));
-    assert_eq!(rt; found, Some(26));
+    assert_eq!(rt; next_leaf(&one, &rect(5, 0, 9, 6), 0), Some(0));
+    assert_eq!(rt; next_leaf(&one, &rect(6, 0, 9, 6), 0), None);
     Ok(())
 }

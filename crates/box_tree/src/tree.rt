@@ -1,12 +1,12 @@
 //! Trees of boxes.
 
-ghost use Rattle.std.specs.Prelude.{◌≡◌, ◌+◌, ◌*◌, ◌<◌, ◌≤◌, ◌/◌, IfOk, length, slice_get};
+ghost use Rattle.std.specs.Prelude.{◌≡◌, ◌+◌, ◌*◌, ◌<◌, ◌≤◌, ◌/◌, IfOk, IfSome, length, slice_get};
 ghost use Rattle.std.specs.Option.{option_map};
 ghost use Rattle.box_tree.specs.Trees.{around_both, around, children, node_above, level_above, levels_of};
-ghost use Rattle.box_tree.specs.Search.{first_meeting, nodes_meeting};
+ghost use Rattle.box_tree.specs.Search.{first_meeting, nodes_between, nodes_meeting};
 
 use crate::FAN;
-use crate::search::{first_leaf, first_leaf_uncounted};
+use crate::search::first_leaf;
 use live_model::{List, Rect, Steps};
 use owned_data::Mem;
 use std::alloc::Global;
@@ -68,16 +68,13 @@ impl Tree {
     }
 
     /// The place of the first leaf at or after `from` that meets the rectangle, edges included. `None` exactly where
-    /// there is none.
-    pub fn next_leaf(&self, rect: &Rect, from: usize) -> Option<usize>
-        ensures { result ≡ first_meeting self.now rect.now from }
-    {
-        first_leaf_uncounted(&self.levels, rect, from)
-    }
-
-    /// The same, with a step counted for each node that the search enters, the leaf among them. These are at most as
-    /// many as the nodes that meet the rectangle, in each level from the one on that leaf `from` is below.
-    pub fn next_leaf_counted<L: Ledger>(
+    /// there is none. It takes no memory.
+    ///
+    /// A step is counted for each node that the search enters, the leaf among them. It enters none that does not meet
+    /// the rectangle: the steps are at most as many as the nodes that do, in each level from the one on that leaf `from`
+    /// is below; and where a leaf is found, up to the one that this leaf is below. A caller that counts nothing hands a
+    /// counter made from `Blank::new(1)`.
+    pub fn next_leaf<L: Ledger>(
         &self,
         rect: &Rect,
         from: usize,
@@ -85,6 +82,7 @@ impl Tree {
     ) -> Option<usize>
         ensures leaf { result ≡ first_meeting self.now rect.now from }
         ensures steps { steps.new ≤ steps.old + nodes_meeting (levels_of self.now) rect.now from }
+        ensures found { IfSome result (λ leaf. steps.new ≤ steps.old + nodes_between (levels_of self.now) rect.now from leaf) }
     {
         first_leaf(&self.levels, rect, from, steps)
     }

@@ -4,6 +4,7 @@ use Rattle.box_tree.specs.Trees.{lowest}
 use Rattle.std.proofs.lemmas.Bool.Decides.{nat_tests}
 use Rattle.box_tree.proofs.Parts.{none_past, is_none_of}
 use Rattle.box_tree.proofs.Walk.{lowest_at, above_leaf, climb_start, climb_leaf, climb_leaf_steps, climb_more, climb_found, climb_high, climb_here, climb_steps, climb_end, until_front}
+use Rattle.box_tree.proofs.Found.{climb_found_steps, first_steps}
 use Rattle.box_tree.proofs.search.first_leaf.Goals as goal
 use Rattle.box_tree.proofs.search.first_leaf.Goals.{then-is_empty-via-then-is_empty, then-is_empty-via-else-is_empty+then-from-nodes}
 
@@ -88,3 +89,16 @@ returns-clause-steps g c =
     let some : 0 < length c.args.levels.now = grind (arith, nat_tests, c.is_empty.ensures, c.if-is_empty.false) in
     let front = until_front c.args.levels.now c.args.rect.now c.args.from c.loop-height.height (c.loop-height.place + 1) (omega arith) in
     omega (arith, front, c.loop-height.invariant.steps)
+
+pub returns-then-node_meets-clause-found : goal.returns-then-node_meets-clause-found
+returns-then-node_meets-clause-found g c =
+    let some : 0 < length c.args.levels.now = grind (arith, nat_tests, c.is_empty.ensures, c.if-is_empty.false) in
+    let one = first_steps c.args.levels.now c.args.rect.now c.args.from none (omega (arith, ap length c.nodes.ensures.nodes)) some (sym (c.if-node_meets.ensures.meets none)) in
+    omega (arith, one, c.tick.ensures)
+
+pub returns-then-is_some-clause-found : goal.returns-then-is_some-clause-found
+returns-then-is_some-clause-found g c =
+    let place : ℕ = c.loop-height.place in
+    let h : ℕ = c.loop-height.height in
+    climb_found_steps c.args.levels.now c.args.rect.now c.args.from h place ((place / 8 + 1) * 8 ^ (h + 1)) c.first_beside-found.result c.args.steps.now c.loop-height.steps c.first_beside-found.new.steps
+    c.loop-height.invariant.here (omega arith) c.loop-height.invariant.steps c.first_beside-found.ensures.leaf c.first_beside-found.ensures.found
