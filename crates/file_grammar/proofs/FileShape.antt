@@ -16,7 +16,7 @@ use Rattle.file_grammar.proofs.Shaped.{HoldsNumber, HoldsNumbers, IsShaped, Begi
 abbrev holds : Content → Option Content
 holds content = Some content
 
-begins_version : (part : Part) (last : Option ℕ) (k : ℕ) (fields : Fields) → next_keys part last ≡ k ∷ [] → may_end part last ≡ false → content_of part k ≡ holds Version
+pub begins_version : (part : Part) (last : Option ℕ) (k : ℕ) (fields : Fields) → next_keys part last ≡ k ∷ [] → may_end part last ≡ false → content_of part k ≡ holds Version
     → IsShaped part last fields → BeginsNumber part k fields
 unfolding IsShaped
 begins_version part last k ends only more is s = absurd (both_ways (may_end part last) more s)
@@ -39,7 +39,7 @@ pub record BeginsBytes (part : Part) (k : ℕ) (fields : Fields) : Type 0 where
   pub is : fields ≡ has_bytes at k text rest
   pub shaped : IsShaped part (Some k) rest
 
-begins_bytes : (part : Part) (last : Option ℕ) (k : ℕ) (fields : Fields) → next_keys part last ≡ k ∷ [] → may_end part last ≡ false → content_of part k ≡ holds Bytes
+pub begins_bytes : (part : Part) (last : Option ℕ) (k : ℕ) (fields : Fields) → next_keys part last ≡ k ∷ [] → may_end part last ≡ false → content_of part k ≡ holds Bytes
     → IsShaped part last fields → BeginsBytes part k fields
 unfolding IsShaped
 begins_bytes part last k ends only more is s = absurd (both_ways (may_end part last) more s)

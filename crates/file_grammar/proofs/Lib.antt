@@ -13,3 +13,6 @@ mod Rows
 mod RuleRows
 pub mod FileShape
 mod FileRows
+pub mod HourNumbers
+pub mod HeadsByNumbers
+pub mod FileLaws

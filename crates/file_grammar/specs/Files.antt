@@ -156,7 +156,7 @@ hour_number (Some hour) = number_of hour
 abbrev pub head_numbers : Head → HeadNumbers
 head_numbers head = record { level = level_number head.level; first = hour_number head.first; last = hour_number head.last }
 
--- Laws, stated here and not yet proved.
+-- Laws.
 
 -- the numbers of a head are good where it is
 abbrev pub HeadLaw : Type 0

@@ -1,5 +1,6 @@
 //! What the form of messages owes its readers beyond one message: laws, with nothing to run.
 
+ghost use Rattle.file_grammar.specs.Files.{FileLaw, HeadLaw, HourLaw, OnePartsLaw, PartsLaw};
 ghost use Rattle.file_grammar.specs.Readings.{ReadingLaw};
 
 /// That a reading is the message that its bytes spell, and no other. In memory, fields are read at a place
@@ -7,4 +8,20 @@ ghost use Rattle.file_grammar.specs.Readings.{ReadingLaw};
 /// what its row says, and the bytes up to the end their spelling.
 pub fn readings_are_messages()
     ensures { ReadingLaw }
+{}
+
+/// That just a file has no break, and that it has its parts once. Bytes in memory have no break exactly where they
+/// are a file with some head, rules, marks and records, and they are one with no others. Those of good form always
+/// have the parts of a file.
+pub fn unbroken_bytes_are_files()
+    ensures unbroken { FileLaw }
+    ensures once { OnePartsLaw }
+    ensures parts { PartsLaw }
+{}
+
+/// That the numbers of a head are good exactly where the head is, and that a number is that of an hour exactly where
+/// its digits are those of an hour that the calendar has.
+pub fn heads_are_their_numbers()
+    ensures heads { HeadLaw }
+    ensures hours { HourLaw }
 {}

@@ -15,7 +15,7 @@ mod walk;
 
 pub use fields::FieldWalk;
 pub use first::{FirstBreak, one_first_break};
-pub use laws::readings_are_messages;
+pub use laws::{heads_are_their_numbers, readings_are_messages, unbroken_bytes_are_files};
 pub use parts::{Boxed, Content, Group, Part};
 pub use walk::form;
 
