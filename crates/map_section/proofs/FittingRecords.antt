@@ -30,25 +30,25 @@ use Rattle.map_section.proofs.BlockRecords.{shape_again}
 -- ---- parts of facts
 
 module _ {A : Type 0} (P : A → Type 0) where
-  all_behind : (xs ys : List A) → AllByRecursion P (xs ++ ys) → AllByRecursion P ys
+  pub all_behind : (xs ys : List A) → AllByRecursion P (xs ++ ys) → AllByRecursion P ys
   all_behind [] ys all = all
   all_behind (x ∷ xs) ys all = all_behind xs ys all.1
 
-  all_before : (xs ys : List A) → AllByRecursion P (xs ++ ys) → AllByRecursion P xs
+  pub all_before : (xs ys : List A) → AllByRecursion P (xs ++ ys) → AllByRecursion P xs
   all_before [] ys all = tt
   all_before (x ∷ xs) ys all = (all.0, all_before xs ys all.1)
 
-abbrev Holds : Fact → Type 0
+abbrev pub Holds : Fact → Type 0
 Holds f = f.holds ≡ true
 
 -- ---- the rule and the shape
 
 -- the rule of a number draws the shape
-record IsDrawnBy (rules : List Rule) (shape number : ℕ) : Type 0 where
-  rule : Rule
-  there : slice_get rules number ≡ Some rule
-  shape_is : shape_rank rule.shape ≡ shape
-  class_is : rule.class ≡ MapClass
+pub record IsDrawnBy (rules : List Rule) (shape number : ℕ) : Type 0 where
+  pub rule : Rule
+  pub there : slice_get rules number ≡ Some rule
+  pub shape_is : shape_rank rule.shape ≡ shape
+  pub class_is : rule.class ≡ MapClass
 
 map_class : (class : Class) → is_map class ≡ true → class ≡ MapClass
 map_class MapClass e = refl
@@ -56,7 +56,7 @@ map_class (PoiClass category) e = absurd (cc)
 map_class RoadClass e = absurd (cc)
 map_class PlaceClass e = absurd (cc)
 
-drawn_by : (rules : List Rule) (shape number : ℕ) → option_map_or (draws shape) (slice_get rules number) false ≡ true → IsDrawnBy rules shape number
+pub drawn_by : (rules : List Rule) (shape number : ℕ) → option_map_or (draws shape) (slice_get rules number) false ≡ true → IsDrawnBy rules shape number
 drawn_by rules shape number e = one (slice_get rules number) refl e
   where
     one : (r : Option Rule) → slice_get rules number ≡ r → option_map_or (draws shape) r false ≡ true → IsDrawnBy rules shape number
@@ -77,19 +77,19 @@ count_of AreaShape count e = leb-true 2 count e
 
 -- ---- names
 
-abbrev AreUtf8 : List (Placed (List ℕ)) → Type 0
-AreUtf8 texts = AllByRecursion (λ t. is_utf8 t.value ≡ true) texts
+abbrev pub PassUtf8 : List (Placed (List ℕ)) → Type 0
+PassUtf8 texts = AllByRecursion (λ t. is_utf8 t.value ≡ true) texts
 
-text_utf8 : (texts : List (Placed (List ℕ))) (k : ℕ) → AreUtf8 texts → IsUtf8 (unwrap_or (option_map (λ t. t.value) (slice_get texts k)) [])
+text_utf8 : (texts : List (Placed (List ℕ))) (k : ℕ) → PassUtf8 texts → IsUtf8 (unwrap_or (option_map (λ t. t.value) (slice_get texts k)) [])
 text_utf8 [] k all = IsUtf8-nil
 text_utf8 (t ∷ ts) zero all = IsUtf8-from_is_utf8 t.value all.0
 text_utf8 (t ∷ ts) (suc k) all = text_utf8 ts k all.1
 
-name_utf8 : (texts : List (Placed (List ℕ))) (n : ℕ) → AreUtf8 texts → IsUtf8 (text_of texts n)
+name_utf8 : (texts : List (Placed (List ℕ))) (n : ℕ) → PassUtf8 texts → IsUtf8 (text_of texts n)
 name_utf8 texts zero all = IsUtf8-nil
 name_utf8 texts (suc k) all = text_utf8 texts k all
 
-texts_utf8 : (texts : List (Placed (List ℕ))) (before : Option (Placed (List ℕ))) → AllHold (map text_fact (with_before before texts)) → AreUtf8 texts
+pub texts_utf8 : (texts : List (Placed (List ℕ))) (before : Option (Placed (List ℕ))) → AllHold (map text_fact (with_before before texts)) → PassUtf8 texts
 texts_utf8 [] before all = tt
 texts_utf8 (t ∷ ts) before all =
     let whole = and_parts (is_utf8 t.value && _) (follows texts_rise (before, t)) all.0 in
@@ -114,7 +114,7 @@ points_in_grid (p ∷ ps) e =
 
 -- ---- records
 
-one_fits : (beside : Beside) (block : Block) (prev : Option Entry) (entry : Entry) (f : MapFields) → AreUtf8 block.texts → AllHold (map_facts_of beside block (prev, entry) f) → FitsMap beside.rules (map_record_of block entry f)
+one_fits : (beside : Beside) (block : Block) (prev : Option Entry) (entry : Entry) (f : MapFields) → PassUtf8 block.texts → AllHold (map_facts_of beside block (prev, entry) f) → FitsMap beside.rules (map_record_of block entry f)
 one_fits beside block prev entry f utf8 all =
     let object = and_parts (is_ordinal entry.ordinal) (is_drawn_of f.shape.value entry.ordinal) all.1.0 in
     let drawn = drawn_by beside.rules f.shape.value f.rule.value all.1.1.1.0 in
@@ -134,7 +134,7 @@ one_fits beside block prev entry f utf8 all =
       grid = points_in_grid ps points.0;
     }
 
-entries_fit : (beside : Beside) (block : Block) (entries : List Entry) (prev : Option Entry) → AreUtf8 block.texts → AllHold (flat_map (map_facts beside block) (with_before prev entries)) → AllByRecursion (FitsMap beside.rules) (map (λ entry. map_record_of block entry (map_fields entry.fields)) entries)
+entries_fit : (beside : Beside) (block : Block) (entries : List Entry) (prev : Option Entry) → PassUtf8 block.texts → AllHold (flat_map (map_facts beside block) (with_before prev entries)) → AllByRecursion (FitsMap beside.rules) (map (λ entry. map_record_of block entry (map_fields entry.fields)) entries)
 entries_fit beside block [] prev utf8 all = tt
 entries_fit beside block (e ∷ es) prev utf8 all = (
   one_fits beside block prev e (map_fields e.fields) utf8 (all_before Holds (map_facts beside block (prev, e)) (flat_map (map_facts beside block) (with_before (Some e) es)) all),

@@ -28,3 +28,5 @@ pub mod BareLevels
 pub mod BareSections
 pub mod PackedReadings
 pub mod FittingRecords
+pub mod SoundWalk
+pub mod Counts

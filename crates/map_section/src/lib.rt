@@ -6,11 +6,13 @@
 //! hold, and which records a section is, is said by the definitions of `file_grammar`, which later sections share.
 //!
 //! The layer above may rely on this: `write` appends exactly the packed bytes, or nothing; `form` and `sound` answer exactly whether the
-//! form is good and every rule holds, or the first break; and what is packed is of good form, sound, and read as the same records.
+//! form is good and every rule holds, or the first break; of a sound section `list` gives exactly the records, and nothing that stands
+//! in it is an error; `count` tells how many there are; and what is packed is of good form, sound, and read as the same records.
 #![tactic(auto)]
 
 mod block_bytes;
 mod blocks;
+mod count;
 mod edges;
 mod entries;
 mod fields;

@@ -2,16 +2,19 @@
 
 use super::hostile_tests::SECTION;
 use super::write_tests::{drawn, is_taken, table};
-use super::{sound, write};
+use super::{Section, form, sound, write};
 use live_model::{Kind, MapRec, ObjId, Point, Shape};
-use obf_wire::Marks;
+use obf_wire::{FileError, Marks};
 use std::alloc::Global;
 use std::test::Fail;
 use tag_rules::Rules;
 
 /// The records of these bytes, which are a sound section.
-fn listed(alloc: Global, bytes: &[u8], rules: &Rules) -> Result<Vec<MapRec>, Fail> {
+fn listed(alloc: Global, bytes: &[u8], rules: &Rules) -> Result<Vec<MapRec>, FileError> {
+    form(bytes, 0, bytes.len())?;
     let section = sound(alloc, bytes, 0, bytes.len(), rules, Marks::Any)?;
+    // That a table has at most 100,000 rules is told with them.
+    let _ = rules.as_slice();
     let records = section.list(alloc, bytes)?;
     Ok(records)
 }
@@ -79,5 +82,10 @@ fn two_blocks_are_listed(rt: HostRuntime) -> Result<(), Fail> {
     assert!(rt; is_taken(&records, &rules));
     write(alloc, &records, &rules, &mut out)?;
     assert!(rt; are_same(&listed(alloc, &out, &rules)?, &records));
+    let section = Section {
+        from: 0,
+        to: out.len(),
+    };
+    assert_eq!(rt; section.count(&out), 65);
     Ok(())
 }

@@ -8,6 +8,7 @@ use Rattle.file_grammar.specs.Sections.{Block, entries_from, messages_in, texts_
 use Rattle.file_grammar.specs.Walks.{Standing, left_in}
 use Rattle.map_section.specs.Listed.{block_records, texts_held, texts_seen}
 use Rattle.map_section.proofs.RecordWalk.{IsBlockOf, block_of, held_texts}
+use Rattle.map_section.proofs.SoundWalk.{block_parts}
 use Rattle.map_section.proofs.list.list_block.Goals as goal
 
 abbrev stands : Fields → Result Fields FileBreak
@@ -23,3 +24,15 @@ returns c = IfOk-weaker c.list_records.result _ _ (λ _ listed fields e.
     let block : Block = record { at = 0; texts = texts_in s.texts; entries = entries_from 0 (messages_in s.records) } in
     let texts : texts_held block.texts ≡ texts_seen c.deref.result.now = c.in_ok-texts.ensures s.texts read ∙ ap texts_seen (sym c.deref.ensures.value) in
     listed s.records block m.2 s.are texts ∙ ap (λ (f : Fields). c.args.records.now.items ++ block_records f) (sym s.is)) c.list_records.ensures
+
+pub read_texts-requires-clause-sound : goal.read_texts-requires-clause-sound
+read_texts-requires-clause-sound c =
+    let span = c.next_payload-span.result in
+    (block_parts (record { bytes = c.args.bytes.now; place = c.args.field.from; end = c.args.field.to }) c.new-walk.result c.next_payload-span.new.walk span.at span.from span.to c.new-walk.ensures c.requires.sound
+    c.next_payload-span.ensures.message).0
+
+pub list_records-requires-clause-sound : goal.list_records-requires-clause-sound
+list_records-requires-clause-sound c =
+    let span = c.next_payload-span.result in
+    (block_parts (record { bytes = c.args.bytes.now; place = c.args.field.from; end = c.args.field.to }) c.new-walk.result c.next_payload-span.new.walk span.at span.from span.to c.new-walk.ensures c.requires.sound
+    c.next_payload-span.ensures.message).1

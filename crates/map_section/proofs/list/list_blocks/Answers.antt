@@ -3,8 +3,9 @@ use Rattle.file_grammar.specs.declared.parts.Boxed.TheVariants.{Map}
 use Rattle.file_grammar.specs.declared.parts.Part.TheVariants.{Block as BlockPart}
 use Rattle.file_grammar.specs.Messages.{Fields}
 use Rattle.file_grammar.specs.Readings.{message_at}
-use Rattle.map_section.specs.Listed.{block_records}
+use Rattle.map_section.specs.Listed.{HoldsBlock, block_records}
 use Rattle.map_section.proofs.ListWalk.{blocks_on}
+use Rattle.map_section.proofs.SoundWalk.{next_block}
 use Rattle.map_section.proofs.list.list_blocks.Goals as goal
 
 pub loop-field-preserved : goal.loop-field-preserved
@@ -19,4 +20,11 @@ loop-field-preserved c =
       part = c.in-Some.ensures.part ∙ c.loop-field.invariant.part;
       window = c.in-Some.ensures.window;
       same = c.in-Some.ensures.same.0 ∙ c.loop-field.invariant.same;
+      sound = (next_block c.loop-field.walk c.next.new.self f c.loop-field.invariant.part c.loop-field.invariant.sound c.in-Some.ensures.fields).1;
     }
+
+pub list_block-requires-clause-sound : goal.list_block-requires-clause-sound
+list_block-requires-clause-sound c =
+    let f = c.in-Some.field in
+    subst (λ (bytes : List ℕ). HoldsBlock (record { bytes = bytes; place = f.from; end = f.to })) c.loop-field.invariant.same
+    (next_block c.loop-field.walk c.next.new.self f c.loop-field.invariant.part c.loop-field.invariant.sound c.in-Some.ensures.fields).0

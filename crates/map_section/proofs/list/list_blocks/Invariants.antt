@@ -4,6 +4,7 @@ use Rattle.file_grammar.specs.declared.parts.Boxed.TheVariants.{Map}
 use Rattle.file_grammar.specs.declared.parts.Part.TheVariants.{Boxes}
 use Rattle.file_grammar.specs.Messages.{Fields}
 use Rattle.file_grammar.specs.Walks.{left_in}
+use Rattle.map_section.specs.Listed.{LeavesBlocks}
 use Rattle.map_section.specs.Pairs.{AreBlocks}
 use Rattle.map_section.proofs.ListWalk.{BlocksListed}
 use Rattle.map_section.proofs.list.list_blocks.Given as goal
@@ -14,6 +15,7 @@ invariant-loop-field l = record {
   part : l.walk.part ≡ Boxes Map;
   window : IsWindow l.walk.window;
   same : l.walk.window.bytes ≡ l.bytes;
+  sound : LeavesBlocks l.walk;
 }
 
 abbrev pub decreases-loop-field : goal.decreases-loop-field

@@ -6,7 +6,7 @@ use Rattle.file_grammar.specs.Messages.{Fields}
 use Rattle.file_grammar.specs.Sections.{Block}
 use Rattle.file_grammar.specs.Walks.{left_in}
 use Rattle.map_section.specs.Blocks.{AreRecords}
-use Rattle.map_section.specs.Listed.{texts_held, texts_seen}
+use Rattle.map_section.specs.Listed.{LeavesRecords, texts_held, texts_seen}
 use Rattle.map_section.proofs.ListWalk.{RecordsListed}
 use Rattle.map_section.proofs.list.list_records.Given as goal
 
@@ -17,6 +17,7 @@ invariant-loop-field l = record {
   part : l.walk.part ≡ BlockPart Map;
   window : IsWindow l.walk.window;
   same : l.walk.window.bytes ≡ l.bytes;
+  sound : LeavesRecords l.ordinal l.walk;
 }
 
 abbrev pub decreases-loop-field : goal.decreases-loop-field

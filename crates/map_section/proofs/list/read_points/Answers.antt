@@ -1,13 +1,26 @@
+use Rattle.std.specs.Prelude.{pos, ◌+ℤ◌}
+use Rattle.obf_wire.specs.Fields.{Window}
 use Rattle.map_section.proofs.ListWalk.{points_all, points_on}
+use Rattle.map_section.proofs.NumberWalk.{at_place}
+use Rattle.map_section.proofs.SoundWalk.{next_place, steps_behind}
 use Rattle.map_section.proofs.list.read_points.Goals as goal
 
 pub loop-step-preserved : goal.loop-step-preserved
 loop-step-preserved c = record {
   points = λ numbers e.
-      points_on numbers c.loop-step.point c.in_ok-point.point c.loop-step.points.items c.push.new.self.items (record { bytes = c.args.bytes.now; place = c.loop-step.at; end = c.args.to }) c.in-Some.step
-      (c.loop-step.invariant.points numbers e) c.in-Some.ensures.step c.in_ok-point.ensures.x c.in_ok-point.ensures.y c.in_ok-push.ensures.items;
+      points_on numbers c.loop-step.point c.point_behind-point.result c.loop-step.points.items c.push.new.self.items (record { bytes = c.args.bytes.now; place = c.loop-step.at; end = c.args.to }) c.in-Some.step
+      (c.loop-step.invariant.points numbers e) c.in-Some.ensures.step c.point_behind-point.ensures.x c.point_behind-point.ensures.y c.in_ok-push.ensures.items;
   inside = c.in-Some.ensures.forward.1;
+  sound =
+      let w : Window = record { bytes = c.args.bytes.now; place = c.loop-step.at; end = c.args.to } in
+      let step = c.in-Some.step in
+      steps_behind c.point_behind-point.result (pos c.loop-step.point.x +ℤ step.east) (pos c.loop-step.point.y +ℤ step.south) (at_place w step.next) c.point_behind-point.ensures.x c.point_behind-point.ensures.y
+      (next_place c.loop-step.point w step c.loop-step.invariant.sound c.in-Some.ensures.step).1;
 }
+
+pub point_behind-point-requires : goal.point_behind-point-requires
+point_behind-point-requires c =
+    (next_place c.loop-step.point (record { bytes = c.args.bytes.now; place = c.loop-step.at; end = c.args.to }) c.in-Some.step c.loop-step.invariant.sound c.in-Some.ensures.step).0
 
 pub returns : goal.returns
 returns c numbers e =

@@ -4,6 +4,7 @@ use Rattle.file_grammar.specs.Messages.{Fields}
 use Rattle.file_grammar.specs.Readings.{message_at}
 use Rattle.obf_wire.specs.Fields.{IsWindow}
 use Rattle.map_section.proofs.ListWalk.{TextsRead}
+use Rattle.map_section.proofs.SoundWalk.{LeavesTexts}
 use Rattle.map_section.proofs.list.read_texts.Given as goal
 
 abbrev pub invariant-loop-field : goal.invariant-loop-field
@@ -11,6 +12,7 @@ invariant-loop-field l = record {
   texts : (fields : Fields) → message_at Texts (record { bytes = l.bytes; place = l.from; end = l.to }) ≡ Ok fields → TextsRead fields l.texts.items l.walk;
   window : IsWindow l.walk.window;
   same : l.walk.window.bytes ≡ l.bytes;
+  sound : LeavesTexts l.walk;
 }
 
 abbrev pub decreases-loop-field : goal.decreases-loop-field

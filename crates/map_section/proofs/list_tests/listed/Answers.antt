@@ -1,22 +1,30 @@
-use Rattle.std.proofs.Common.{◌≡◌, None, Ok, length, subst, sym}
-use Rattle.std.specs.Prelude.{ℕ}
+use Rattle.std.proofs.Common.{◌≡◌, ℕ, None, Result, Ok, Err, length, refl, subst, sym, arith}
+use Rattle.obf_wire.specs.declared.file.FileBreak.{FileBreak}
+use Rattle.obf_wire.specs.Fields.{Window}
 use Rattle.file_grammar.specs.declared.parts.Boxed.TheVariants.{Map}
 use Rattle.file_grammar.specs.declared.parts.Part.TheVariants.{Boxes}
-use Rattle.file_grammar.specs.BoxRules.{Beside, section_facts}
-use Rattle.file_grammar.specs.Facts.{first_failing}
-use Rattle.file_grammar.specs.MapRules.{map_boxing}
 use Rattle.file_grammar.specs.Messages.{Fields}
-use Rattle.file_grammar.specs.Readings.{message_at}
-use Rattle.file_grammar.specs.Sections.{section_in}
+use Rattle.file_grammar.specs.Readings.{break_in, message_at}
+use Rattle.map_section.specs.Listed.{HoldsSection}
 use Rattle.map_section.proofs.list_tests.listed.Goals as goal
 
-pub list-requires-clause-sound : goal.list-requires-clause-sound
-list-requires-clause-sound c =
-    let beside : Beside = record { rules = c.args.rules.now; marks = None } in
+-- what is read without a break is there
+read_of : (r : Result Fields FileBreak) → None ≡ break_in r → (fields : Fields) × (r ≡ Ok fields)
+read_of (Ok fields) e = (fields, refl)
+read_of (Err b) e = absurd cc
+
+pub list-requires : goal.list-requires
+list-requires c =
+    let w : Window = record { bytes = c.args.bytes.now; place = 0; end = length c.args.bytes.now } in
+    let read = read_of (message_at (Boxes Map) w) c.in_ok-form.ensures in
+    let whole : HoldsSection w = record {
+      window = record { ordered = omega arith; within = omega arith };
+      beside = record { rules = c.args.rules.now; marks = None };
+      few = c.as_slice.ensures.few;
+      fields = read.0;
+      read = read.1;
+      sound = c.in_ok-section.ensures.good read.0 read.1;
+    } in
+    let at : ℕ → ℕ → Window = λ from to. record { bytes = c.args.bytes.now; place = from; end = to } in
     let range = c.in_ok-section.ensures.range in
-    let from = subst (λ (from : ℕ). (fields : Fields) → message_at (Boxes Map) (record { bytes = c.args.bytes.now; place = from; end = length c.args.bytes.now }) ≡ Ok fields
-    → first_failing (section_facts map_boxing beside (section_in fields)) ≡ None) (sym range.0) c.in_ok-section.ensures.good in (
-      beside,
-      subst (λ (to : ℕ). (fields : Fields) → message_at (Boxes Map) (record { bytes = c.args.bytes.now; place = c.in_ok-section.section.from; end = to }) ≡ Ok fields
-          → first_failing (section_facts map_boxing beside (section_in fields)) ≡ None) (sym range.1) from,
-    )
+    subst (λ (to : ℕ). HoldsSection (at c.in_ok-section.section.from to)) (sym range.1) (subst (λ (from : ℕ). HoldsSection (at from (length c.args.bytes.now))) (sym range.0) whole)

@@ -5,6 +5,8 @@ use Rattle.file_grammar.specs.Walks.{Standing, left_in}
 use Rattle.map_section.proofs.BlockWalk.{IsSectionOf, section_of}
 use Rattle.std.proofs.lemmas.Result.{IfOk-weaker}
 use Rattle.map_section.proofs.ListWalk.{section_listed}
+use Rattle.obf_wire.specs.Fields.{Window}
+use Rattle.map_section.proofs.SoundWalk.{section_leaves}
 use Rattle.map_section.proofs.section.Section.list.Goals as goal
 
 abbrev stands : Fields → Result Fields FileBreak
@@ -16,3 +18,12 @@ returns c = IfOk-weaker c.list_blocks.result _ _ (λ records listed fields e.
     let begins : left_in c.new-walk.result ≡ stands fields = subst (λ (w : Standing). left_in w ≡ stands fields) (sym c.new-walk.ensures) e in
     let m = c.next_payload.ensures.message s.at 14 s.tree s.blocks (begins ∙ ap stands s.is) in
     section_listed fields s.at s.tree s.blocks records.items s.is (listed s.blocks m.2 s.are)) c.list_blocks.ensures
+
+pub list_blocks-requires-clause-sound : goal.list_blocks-requires-clause-sound
+list_blocks-requires-clause-sound c =
+    let h = c.requires in
+    let w : Window = record { bytes = c.args.bytes.now; place = c.args.self.now.from; end = c.args.self.now.to } in
+    let s : IsSectionOf h.fields = section_of w h.fields h.read in
+    let begins : left_in c.new-walk.result ≡ stands h.fields = subst (λ (w : Standing). left_in w ≡ stands h.fields) (sym c.new-walk.ensures) h.read in
+    let m = c.next_payload.ensures.message s.at 14 s.tree s.blocks (begins ∙ ap stands s.is) in
+    section_leaves w h s c.next_payload.new.walk m.2

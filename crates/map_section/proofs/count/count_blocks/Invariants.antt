@@ -1,0 +1,21 @@
+use Rattle.std.proofs.Common.{◌≡◌, ◌≤◌, ◌-◌, Ok}
+use Rattle.obf_wire.specs.Fields.{IsWindow}
+use Rattle.file_grammar.specs.declared.parts.Boxed.TheVariants.{Map}
+use Rattle.file_grammar.specs.declared.parts.Part.TheVariants.{Boxes}
+use Rattle.file_grammar.specs.Messages.{Fields}
+use Rattle.file_grammar.specs.Walks.{left_in}
+use Rattle.map_section.specs.Pairs.{AreBlocks}
+use Rattle.map_section.proofs.Counts.{BlocksCounted}
+use Rattle.map_section.proofs.count.count_blocks.Given as goal
+
+abbrev pub invariant-loop-field : goal.invariant-loop-field
+invariant-loop-field l = record {
+  blocks : (fields : Fields) → left_in l.fn.walk ≡ Ok fields → AreBlocks fields → BlocksCounted fields l.count l.walk;
+  part : l.walk.part ≡ Boxes Map;
+  window : IsWindow l.walk.window;
+  same : l.walk.window.bytes ≡ l.bytes;
+  few : l.count ≤ l.walk.window.place;
+}
+
+abbrev pub decreases-loop-field : goal.decreases-loop-field
+decreases-loop-field l = l.walk.window.end - l.walk.window.place
