@@ -1,58 +1,11 @@
 -- The fields of a file, of its head and of its marks.
-use Rattle.std.proofs.Common.{◌≡◌, ℕ, false, List, [], ◌∷◌, Option, Some, None, refl, sym, ap, subst, ◌∙◌}
-use Rattle.std.proofs.lemmas.Bool.{both_ways}
+use Rattle.std.proofs.Common.{◌≡◌, ℕ, List, Some, None, refl, ap, ◌∙◌}
 use Rattle.file_grammar.specs.declared.parts.Boxed.TheVariants.{Map}
-use Rattle.file_grammar.specs.declared.parts.Content.{Content}
-use Rattle.file_grammar.specs.declared.parts.Content.TheVariants.{Version, Bytes, Message}
-use Rattle.file_grammar.specs.declared.parts.Part.{Part}
 use Rattle.file_grammar.specs.declared.parts.Part.TheVariants.{Boxes, File, Head, Marks, NoAddresses, NoRoads, Nothing}
 use Rattle.file_grammar.specs.Files.{HeadNumbers}
-use Rattle.file_grammar.specs.Messages.{Fields, ends, has_number, has_bytes, has_numbers, has_message}
-use Rattle.file_grammar.specs.Tables.{next_keys, may_end, content_of}
-use Rattle.file_grammar.proofs.Shaped.{BeginsMessage, BeginsNumber, BeginsNumbers, HoldsNumber, HoldsNumbers, IsShaped, begins_message, begins_number, begins_numbers, only_key}
-
-abbrev holds : Content → Option Content
-holds content = Some content
-
--- ---- the first of fields, where it is a version or bytes
-
-begins_version : (part : Part) (last : Option ℕ) (k : ℕ) (fields : Fields) → next_keys part last ≡ k ∷ [] → may_end part last ≡ false → content_of part k ≡ holds Version
-    → IsShaped part last fields → BeginsNumber part k fields
-unfolding IsShaped
-begins_version part last k ends only more is s = absurd (both_ways (may_end part last) more s)
-begins_version part last k (has_number at key value rest) only more is s =
-    let same = only_key part last k key only s.0 in
-    record { at = at; value = value; rest = rest; is = ap (λ (key : ℕ). has_number at key value rest) (sym same); shaped = subst (λ (key : ℕ). IsShaped part (Some key) rest) (sym same) s.2 }
-begins_version part last k (has_bytes at key text rest) only more is s =
-    let same = only_key part last k key only s.0 in
-    let a : holds Version ≡ holds Bytes = sym is ∙ ap (content_of part) same ∙ s.1 in absurd cc
-begins_version part last k (has_numbers at key values rest) only more is s =
-    let same = only_key part last k key only s.0 in absurd (subst HoldsNumbers (ap (content_of part) (sym same) ∙ is) s.1)
-begins_version part last k (has_message at key inner rest) only more is s =
-    let same = only_key part last k key only s.0 in
-    let a : holds Version ≡ holds (Message s.1.0) = sym is ∙ ap (content_of part) same ∙ s.1.1 in absurd cc
-
-record BeginsBytes (part : Part) (k : ℕ) (fields : Fields) : Type 0 where
-  pub at : ℕ
-  pub text : List ℕ
-  pub rest : Fields
-  pub is : fields ≡ has_bytes at k text rest
-  pub shaped : IsShaped part (Some k) rest
-
-begins_bytes : (part : Part) (last : Option ℕ) (k : ℕ) (fields : Fields) → next_keys part last ≡ k ∷ [] → may_end part last ≡ false → content_of part k ≡ holds Bytes
-    → IsShaped part last fields → BeginsBytes part k fields
-unfolding IsShaped
-begins_bytes part last k ends only more is s = absurd (both_ways (may_end part last) more s)
-begins_bytes part last k (has_bytes at key text rest) only more is s =
-    let same = only_key part last k key only s.0 in
-    record { at = at; text = text; rest = rest; is = ap (λ (key : ℕ). has_bytes at key text rest) (sym same); shaped = subst (λ (key : ℕ). IsShaped part (Some key) rest) (sym same) s.2 }
-begins_bytes part last k (has_number at key value rest) only more is s =
-    let same = only_key part last k key only s.0 in absurd (subst HoldsNumber (ap (content_of part) (sym same) ∙ is) s.1)
-begins_bytes part last k (has_numbers at key values rest) only more is s =
-    let same = only_key part last k key only s.0 in absurd (subst HoldsNumbers (ap (content_of part) (sym same) ∙ is) s.1)
-begins_bytes part last k (has_message at key inner rest) only more is s =
-    let same = only_key part last k key only s.0 in
-    let a : holds Bytes ≡ holds (Message s.1.0) = sym is ∙ ap (content_of part) same ∙ s.1.1 in absurd cc
+use Rattle.file_grammar.specs.Messages.{Fields, has_number, has_bytes, has_message}
+use Rattle.file_grammar.proofs.FileShape.{BeginsBytes, begins_bytes, begins_version}
+use Rattle.file_grammar.proofs.Shaped.{BeginsMessage, BeginsNumber, BeginsNumbers, IsShaped, begins_message, begins_number, begins_numbers}
 
 -- ---- the file
 

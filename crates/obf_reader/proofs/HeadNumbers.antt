@@ -8,11 +8,11 @@ use Rattle.live_model.specs.Levels.{level_number}
 use Rattle.stamp_core.specs.Heads.{FitsLevel}
 use Rattle.stamp_core.specs.Spans.{IsWithin}
 use Rattle.stamp_core.specs.Hours.{CivilHour, IsCivilHour, number_of}
-use Rattle.file_grammar.specs.Files.{is_head, is_hour, is_stretch}
+use Rattle.file_grammar.specs.Files.{hour_number, is_head, is_hour, is_stretch}
+use Rattle.file_grammar.proofs.HourNumbers.{civil_of, hour_of, number_hour}
 use Rattle.file_grammar.proofs.Inside.{chosen}
-use Rattle.obf_reader.specs.Heads.{IsHeadOf, hour_number}
+use Rattle.obf_reader.specs.Heads.{IsHeadOf}
 use Rattle.obf_reader.proofs.FileShape.{same_head}
-use Rattle.obf_reader.proofs.Hours.{civil_of, hour_of, number_hour}
 
 stretch_level : (level first last : ℕ) → is_stretch level first last ≡ true → level ≤ 3
 stretch_level level first last e =

@@ -1,32 +1,35 @@
 -- A file that breaks no rule, and what its parts then are.
-use Rattle.std.proofs.Common.{◌≡◌, ◌≢◌, ◌<◌, ◌≤◌, length, get_or, ◌/◌, ◌%◌, ◌^◌, ◌*◌, ◌+◌, ◌-◌, ℕ, zero, suc, true, List, [], ◌∷◌, Option, Some, None, Result, Ok, Err, refl, sym, ap, subst, ◌∙◌, inl, inr, arith}
-use Rattle.std.specs.Prelude.{ℤ, pos, negsuc, unsigned_abs, is_some, nat_le, unwrap_or, slice_get, MatchOption, map}
+use Rattle.std.proofs.Common.{◌≡◌, ◌≢◌, ◌<◌, ◌≤◌, length, get_or, ◌/◌, ◌%◌, ◌^◌, ◌*◌, ◌+◌, ◌-◌, ℕ, zero, suc, Bool, true, false, List, [], ◌∷◌, Option, Some, None, Ok, refl, sym, ap, subst, ◌∙◌, inl, inr, arith}
+use Rattle.std.specs.Prelude.{ℤ, pos, negsuc, ◌&&◌, bytes_eq, if◌then◌else◌, unsigned_abs, is_some, nat_le, unwrap_or, slice_get, MatchOption, map}
 use Rattle.std.specs.List.{list_all}
-use Rattle.std.proofs.lemmas.Bool.{and_parts, cases_lt, leb-true}
+use Rattle.std.specs.Option.{option_and_then}
+use Rattle.std.specs.Ordering.{is_le}
+use Rattle.std.proofs.lemmas.Bool.{and_parts, cases_Bool, cases_lt, leb-true}
+use Rattle.std.proofs.lemmas.List.{length-map}
 use Rattle.live_model.specs.declared.ids.Kind.{Kind}
 use Rattle.live_model.specs.declared.ids.Kind.TheVariants.{Node, Way, Relation}
 use Rattle.live_model.specs.declared.rules.Rule.{Rule}
 use Rattle.live_model.specs.Ids.{Id, IsId, ordinal, rank}
-use Rattle.obf_wire.specs.declared.file.FileBreak.{FileBreak}
-use Rattle.file_grammar.specs.BoxRules.{is_ordinal}
+use Rattle.file_grammar.specs.BoxRules.{is_ordinal, section_facts}
 use Rattle.file_grammar.specs.Facts.{AllHold, first_failing}
-use Rattle.file_grammar.specs.Files.{FileParts, break_in_file, facts_in, file_break, file_facts, file_in, is_head, rise_strictly, rules_in, whole}
+use Rattle.file_grammar.specs.Files.{FileParts, beside, break_in_file, facts_in, file_break, file_facts, file_in, is_head, rise_strictly, rules_in, whole}
 use Rattle.file_grammar.specs.declared.parts.Part.TheVariants.{File}
 use Rattle.file_grammar.specs.Messages.{Fields}
 use Rattle.file_grammar.specs.Readings.{IsInMemory, message_at}
-use Rattle.file_grammar.specs.MapRules.{map_records_in}
+use Rattle.file_grammar.specs.MapRules.{map_boxing, map_records_in}
 use Rattle.file_grammar.specs.Sections.{section_in}
 use Rattle.file_grammar.proofs.ReadIsSpelled.{read_is_spelled}
+use Rattle.live_model.specs.declared.records.Rec.{Rec}
 use Rattle.live_model.specs.declared.records.Rec.TheVariants.{Map}
-use Rattle.live_model.specs.Maps.{in_order}
-use Rattle.obf_reader.specs.Images.{IsImage, IsImageFile, Seen}
+use Rattle.live_model.specs.Maps.{in_order, placed}
+use Rattle.live_model.specs.Records.{record_cmp}
+use Rattle.live_model.specs.Rules.{rule_lines, rules_text, spelled_rules}
+use Rattle.map_section.specs.Listed.{HoldsSection}
+use Rattle.obf_reader.specs.Images.{IsImage, IsImageFile, Seen, map_window}
 use Rattle.file_grammar.proofs.Earlier.{one_first_break_law}
+use Rattle.file_grammar.proofs.FileLaws.{read_of}
 
 -- ---- files
-
-read_of : (r : Result Fields FileBreak) → break_in_file r ≡ None → (fields : Fields) × (r ≡ Ok fields)
-read_of (Ok fields) e = (fields, refl)
-read_of (Err b) e = absurd cc
 
 -- what has to hold of a file outside its map section
 pub record AreSound (parts : FileParts) : Type 0 where
@@ -61,6 +64,19 @@ sound_file bytes e =
           sound_of parts (all_hold r.0 parts none are);
     }
 
+as_many_placed : (x : Rec) (xs : List Rec) → length (placed x xs) ≡ suc (length xs)
+as_many_placed x [] = refl
+as_many_placed x (y ∷ ys) =
+    elim (cases_Bool (is_le (record_cmp x y))) [
+      | inl first ↦ rw first refl
+      | inr later ↦ rw later (ap suc (as_many_placed x ys))
+    ]
+
+-- records in order are as many as before
+as_many : (xs : List Rec) → length (in_order xs) ≡ length xs
+as_many [] = refl
+as_many (x ∷ xs) = as_many_placed x (in_order xs) ∙ ap suc (as_many xs)
+
 -- an image is that of a file
 pub file_of : (image : Seen) → IsImage image → IsInMemory (whole image.bytes) → IsImageFile image
 file_of image i memory =
@@ -80,6 +96,36 @@ file_of image i memory =
         marks_are = h.marks;
         records_are = refl;
       };
+      count = h.records ∙ sym (length-map (map_records_in (section_in h.parts.map)) Map) ∙ sym (as_many (map Map (map_records_in (section_in h.parts.map))));
+    }
+
+kept_rules : (keep : Bool) (rules kept : List Rule) → (if keep then Some rules else None) ≡ Some kept → (keep ≡ true) × (rules ≡ kept)
+kept_rules true rules kept e = (refl, cc)
+kept_rules false rules kept e = absurd cc
+
+few_of : (text : List ℕ) (spelled : Option (List Rule)) (rules : List Rule)
+    → option_and_then (λ rules. if nat_le (length rules) 100000 && bytes_eq text (rules_text rules) then Some rules else None) spelled ≡ Some rules → length rules ≤ 100000
+few_of text None rules e = absurd cc
+few_of text (Some spelled) rules e =
+    let kept = kept_rules (nat_le (length spelled) 100000 && bytes_eq text (rules_text spelled)) spelled rules e in
+    let few = leb-true (length spelled) 100000 (and_parts (nat_le (length spelled) 100000) (bytes_eq text (rules_text spelled)) kept.0).0 in
+    subst (λ (rules : List Rule). length rules ≤ 100000) kept.1 few
+
+-- the map section of an image is sound
+pub section_holds : (image : Seen) → IsImage image → HoldsSection (map_window image)
+unfolding file_facts
+section_holds image i =
+    let h = i.holds in
+    let none : first_failing (facts_in (file_in h.fields)) ≡ None = ap break_in_file (sym h.form) ∙ i.unbroken in
+    let all = all_hold h.fields h.parts none h.are in
+    let rules : unwrap_or (rules_in h.parts.rules.value) [] ≡ image.rules = ap (λ (o : Option (List Rule)). unwrap_or o []) h.rules in
+    record {
+      window = h.inside;
+      beside = beside h.parts;
+      few = subst (λ (rules : List Rule). length rules ≤ 100000) (sym rules) (few_of h.parts.rules.value (spelled_rules (rule_lines h.parts.rules.value)) image.rules h.rules);
+      fields = h.parts.map;
+      read = h.map;
+      sound = (one_first_break_law (section_facts map_boxing (beside h.parts) (section_in h.parts.map))).none.1 all.1.1.1.1.1.1;
     }
 
 pub some_rules : (r : Option (List Rule)) (rules : List Rule) → is_some r ≡ true → rules ≡ unwrap_or r [] → r ≡ Some rules

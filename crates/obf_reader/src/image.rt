@@ -16,7 +16,8 @@ ghost use Rattle.file_grammar.specs.Sections.{section_in};
 ghost use Rattle.map_section.specs.Marked.{AreRising, ordinals_of};
 ghost use Rattle.file_grammar.specs.Messages.{Fields};
 ghost use Rattle.file_grammar.specs.Readings.{IsInMemory, message_at};
-ghost use Rattle.obf_reader.specs.Images.{IsImage, IsImageFile, IsImageOf};
+ghost use Rattle.map_section.specs.Listed.{HoldsSection};
+ghost use Rattle.obf_reader.specs.Images.{IsImage, IsImageFile, IsImageOf, map_window};
 ghost use Rattle.obf_reader.specs.Parts.{IsReadOf, beside_of, marks_of};
 ghost use Rattle.obf_reader.specs.Spread.{IsInBytes, window_of};
 ghost use Rattle.map_section.specs.Pairs.{Breaks};
@@ -34,7 +35,7 @@ use std::marker::Model;
 use tag_rules::Rules;
 
 /// A map file: its bytes, which break no rule, and what they hold. It is seen as its bytes, its head, its
-/// rules, its marks as ordinals, and where its section of map records stands.
+/// rules, its marks as ordinals, where its section of map records stands, and how many records that has.
 #[derive(Debug, Drop)]
 pub struct Image {
     bytes: Vec<u8>,
@@ -42,6 +43,7 @@ pub struct Image {
     rules: Rules,
     marks: Vec<u64>,
     map: Section,
+    records: usize,
 }
 
 impl Model for Image {
@@ -49,9 +51,9 @@ impl Model for Image {
 
     ghost Value = { Seen };
 
-    ghost view = { λ image. record { bytes = image.bytes.items; head = image.head; rules = image.rules; marks = image.marks.items; map = image.map } };
+    ghost view = { λ image. record { bytes = image.bytes.items; head = image.head; rules = image.rules; marks = image.marks.items; map = image.map; records = image.records } };
 
-    ghost invariant = { λ image. IsImage (record { bytes = image.bytes.items; head = image.head; rules = image.rules; marks = image.marks.items; map = image.map }) };
+    ghost invariant = { λ image. IsImage (record { bytes = image.bytes.items; head = image.head; rules = image.rules; marks = image.marks.items; map = image.map; records = image.records }) };
 }
 
 impl Image {
@@ -73,18 +75,22 @@ impl Image {
     fn of(bytes: Vec<u8>, parts: PartsRead) -> Image
         requires sound { file_break bytes.items ≡ None }
         requires marks { IsRisingBy nat_cmp (λ n. n) parts.marks.marks.items }
+        requires inside { IsInBytes bytes.items parts.map }
         requires parts { (fields : Fields) → message_at File (whole bytes.items) ≡ Ok fields → IsReadOf bytes.items parts fields }
         ensures { IsImageOf bytes.items result }
     {
+        let map = Section {
+            from: parts.map.from,
+            to: parts.map.to,
+        };
+        let records = map.count(&bytes);
         Image {
             bytes,
             head: head_of(parts.head),
             rules: parts.rules.rules,
             marks: parts.marks.marks,
-            map: Section {
-                from: parts.map.from,
-                to: parts.map.to,
-            },
+            map,
+            records,
         }
     }
 
@@ -132,15 +138,25 @@ impl Image {
         self.marks.len()
     }
 
-    /// The section of map records.
+    /// The section of map records. Its records can be listed from the bytes of the file.
+    #[tactic(auto, using(crate::proofs::Images::section_holds))]
     pub fn map(&self) -> &Section
-        ensures { result.now ≡ self.now.map }
+        ensures map { result.now ≡ self.now.map }
+        ensures sound { HoldsSection (map_window self.now) }
     {
         &self.map
     }
+
+    /// How many map records the file has.
+    pub fn record_count(&self) -> usize
+        ensures { result ≡ self.now.records }
+    {
+        self.records
+    }
 }
 
-/// That the bytes of an image are a file with its head, its rules and its marks. There is nothing to run.
+/// That the bytes of an image are a file with its head, its rules and its marks, and with as many records as it
+/// counts. There is nothing to run.
 pub fn images_are_files(image: &Image)
     ensures { IsImageFile image.now }
 {

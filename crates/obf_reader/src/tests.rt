@@ -1,8 +1,9 @@
 //! Small files whose bytes and breaks are known from outside.
 
 use super::*;
-use live_model::{Kind, ObjId};
+use live_model::{Kind, MapRec, ObjId};
 use obf_wire::{FileBreak, FileError, FileKind};
+use owned_data::Mem;
 use stamp_core::Level;
 use std::alloc::Global;
 use std::test::Fail;
@@ -118,6 +119,7 @@ fn a_base_is_an_image(rt: HostRuntime) -> Result<(), Fail> {
     assert!(rt; image.head().first.is_none() && image.head().is_good());
     assert_eq!(rt; image.rules().len(), 0);
     assert_eq!(rt; image.mark_count(), 0);
+    assert_eq!(rt; image.record_count(), 0);
     assert!(rt; image.mark_at(0).is_none());
     assert!(rt; image.map().from == 21 && image.map().to == 30);
     Ok(())
@@ -170,5 +172,20 @@ fn breaks_of_marks_and_records(rt: HostRuntime) -> Result<(), Fail> {
         break_of(alloc, NOT_CANONICAL, &SMALL_LEAF, &NO_MARKS)?,
         broken(10, FileKind::BadRules)
     );
+    Ok(())
+}
+
+/// The records of an image.
+fn listed(alloc: Global, image: &Image) -> Mem<Vec<MapRec>> {
+    image.map().list(alloc, image.bytes())
+}
+
+#[test]
+fn one_node_is_counted_and_listed(rt: HostRuntime) -> Result<(), Fail> {
+    let image = Image::read(rt.alloc(), file(rt.alloc(), DRAWN, &ONE_NODE, &NO_MARKS)?)?;
+    assert_eq!(rt; image.record_count(), 1);
+    let records = listed(rt.alloc(), &image)?;
+    assert_eq!(rt; records.len(), 1);
+    assert!(rt; records.first().map(|record| record.id) == ObjId::new(Kind::Node, 1));
     Ok(())
 }
