@@ -70,7 +70,7 @@ pub record AreParts (head : HeadNumbers) (rules : List Rule) (marks : List ℕ) 
   pub fit : AllByRecursion (FitsMap rules) records
   pub marked : AreMarked head.level marks records
 
--- Law: what is packed of such parts is a file with just these parts, where it is shorter than 2^64 bytes. Stated here, and not yet proved.
+-- Law: what is packed of such parts is a file with just these parts, where it is shorter than 2^64 bytes.
 abbrev pub PackedFileLaw : Type 0
 PackedFileLaw =
     (head : HeadNumbers) (rules : List Rule) (marks : List ℕ) (records : List MapRec) → AreParts head rules marks records

@@ -1,6 +1,6 @@
 //! A whole file.
 
-ghost use Rattle.std.specs.Prelude.{◌≡◌, ◌≢◌, ◌++◌, [], map, Contains, IfOk, OnOk};
+ghost use Rattle.std.specs.Prelude.{◌≡◌, ◌≢◌, ◌↔◌, ◌++◌, [], map, Contains, IfOk, IfSome, IsTrue, OnOk};
 ghost use Rattle.std.specs.List.{AllByRecursion};
 ghost use Rattle.std.specs.List.Sorted.{IsSorted};
 ghost use Rattle.std.specs.Ordering.{nat_cmp};
@@ -9,12 +9,12 @@ ghost use Rattle.live_model.specs.Fits.{FitsMap};
 ghost use Rattle.live_model.specs.Ids.{ordinal};
 ghost use Rattle.live_model.specs.Ordered.{IsRisingBy};
 ghost use Rattle.live_model.specs.Records.{map_cmp};
-ghost use Rattle.live_model.specs.Rules.{rules_text};
 ghost use Rattle.stamp_core.specs.Heads.{IsGoodHead};
-ghost use Rattle.file_grammar.specs.Files.{head_numbers, hour_number};
+ghost use Rattle.stamp_core.specs.Hours.{IsCivilHour};
+ghost use Rattle.file_grammar.specs.Files.{head_numbers, hour_number, is_head};
 ghost use Rattle.obf_wire.specs.Fields.{section};
 ghost use Rattle.map_section.specs.Packed.{number_field, short_field};
-ghost use Rattle.obf_writer.specs.PackedFile.{head_bytes, no_addresses, no_roads, packed_file};
+ghost use Rattle.obf_writer.specs.PackedFile.{IsPackedFile, head_bytes, no_addresses, no_roads};
 
 use crate::fields::{put_number, put_short};
 use crate::marks::marks_bytes;
@@ -56,13 +56,14 @@ pub fn write_file(
     requires sorted { IsSorted map_cmp records.now }
     requires fit { AllByRecursion (FitsMap rules.now) records.now }
     requires marked { head.now.level ≢ Base → AllByRecursion (λ m. Contains marks.now m.id) records.now }
-    ensures { IfOk result (λ bytes. bytes.items ≡ packed_file (head_numbers head.now) rules.now (map ordinal marks.now) records.now) }
+    ensures { IfOk result (λ bytes. IsPackedFile bytes.items (head_numbers head.now) rules.now (map ordinal marks.now) records.now) }
 {
     let mut map = Vec::new(alloc);
     map_section::write(alloc, records, rules, &mut map)?;
     let marks = marks_bytes(alloc, marks)?;
+    let head = head_bytes(alloc, head)?;
     let mut out = Out::new(alloc);
-    put_front(alloc, head, rules, &mut out)?;
+    put_front(&head, rules.text(), &mut out)?;
     out.put_section(6, &map)?;
     put_empty_sections(&mut out)?;
     out.put_section(16, &marks)?;
@@ -70,19 +71,19 @@ pub fn write_file(
     Ok(out.finish())
 }
 
-/// Appends the version, the head and the rules.
-fn put_front(alloc: Global, head: &Head, rules: &Rules, out: &mut Out) -> Mem<()>
-    ensures { OnOk result (out.new ≡ out.old ++ number_field 1 1 ++ short_field 2 (head_bytes (head_numbers head.now)) ++ short_field 3 (rules_text rules.now)) }
+/// Appends the version, the head and the text of the rules.
+fn put_front(head: &[u8], rules: &[u8], out: &mut Out) -> Mem<()>
+    ensures { OnOk result (out.new ≡ out.old ++ number_field 1 1 ++ short_field 2 head.now ++ short_field 3 rules.now) }
 {
-    let head = head_bytes(alloc, head)?;
     put_number(1, VERSION, out)?;
-    put_short(2, &head, out)?;
-    put_short(3, rules.text(), out)
+    put_short(2, head, out)?;
+    put_short(3, rules, out)
 }
 
-/// The level, and the numbers of the first hour and the last.
+/// The level, and the numbers of the first hour and the last, which are good where the head is.
 fn head_bytes(alloc: Global, head: &Head) -> Mem<Vec<u8>>
-    ensures { IfOk result (λ bytes. bytes.items ≡ head_bytes (head_numbers head.now)) }
+    ensures bytes { IfOk result (λ bytes. bytes.items ≡ head_bytes (head_numbers head.now)) }
+    ensures good { OnOk result (IsTrue (is_head (head_numbers head.now)) ↔ IsGoodHead head.now) }
 {
     let mut out = Out::new(alloc);
     put_number(1, head.level.number(), &mut out)?;
@@ -93,7 +94,8 @@ fn head_bytes(alloc: Global, head: &Head) -> Mem<Vec<u8>>
 
 /// The number of an hour; 0, which no hour has, where there is none.
 fn hour_number(hour: Option<Stamp>) -> u64
-    ensures { result ≡ hour_number hour }
+    ensures number { result ≡ hour_number hour }
+    ensures civil { IfSome hour IsCivilHour }
 {
     match hour {
         Some(stamp) => stamp.number(),

@@ -2,16 +2,19 @@
 //!
 //! The one idea: a file is a few fields one behind another, each written by the crate that knows it: the head, the rules as
 //! their canonical text, the section of map records, and the marks as differences. `specs/PackedFile.antt` says which bytes
-//! these are.
+//! these are, and which parts a file has.
 //!
-//! The layer above may rely on this: `write_file` gives exactly these bytes, or `NoMemory`.
+//! The layer above may rely on this: `write_file` gives exactly these bytes, which are a file with just the parts that it was
+//! given, or `NoMemory`.
 #![tactic(auto)]
 
 mod fields;
 mod file;
+mod laws;
 mod marks;
 
 pub use file::write_file;
+pub use laws::packed_files_are_files;
 
 #[cfg(test)]
 mod tests;

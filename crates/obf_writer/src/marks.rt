@@ -1,7 +1,8 @@
 //! The section of marks.
 
 ghost use Rattle.std.specs.Prelude.{◌≡◌, ◌++◌, flat_map, map, IfOk, OnOk};
-ghost use Rattle.live_model.specs.Ids.{ordinal};
+ghost use Rattle.std.specs.List.{AllByRecursion};
+ghost use Rattle.live_model.specs.Ids.{IsId, ordinal};
 ghost use Rattle.obf_wire.specs.Varint.{varint};
 ghost use Rattle.obf_writer.specs.PackedFile.{marks_bytes, steps_from};
 
@@ -13,7 +14,8 @@ use std::alloc::Global;
 
 /// The bytes of the section of these marks.
 pub(crate) fn marks_bytes(alloc: Global, marks: &[ObjId]) -> Mem<Vec<u8>>
-    ensures { IfOk result (λ bytes. bytes.items ≡ marks_bytes (map ordinal marks.now)) }
+    ensures bytes { IfOk result (λ bytes. bytes.items ≡ marks_bytes (map ordinal marks.now)) }
+    ensures ids { OnOk result (AllByRecursion IsId marks.now) }
 {
     let mut steps = Out::new(alloc);
     put_steps(marks, &mut steps)?;
@@ -24,7 +26,8 @@ pub(crate) fn marks_bytes(alloc: Global, marks: &[ObjId]) -> Mem<Vec<u8>>
 
 /// Appends the first ordinal and then the difference to each next.
 fn put_steps(marks: &[ObjId], out: &mut Out) -> Mem<()>
-    ensures { OnOk result (out.new ≡ out.old ++ flat_map varint (steps_from 0 (map ordinal marks.now))) }
+    ensures steps { OnOk result (out.new ≡ out.old ++ flat_map varint (steps_from 0 (map ordinal marks.now))) }
+    ensures ids { OnOk result (AllByRecursion IsId marks.now) }
 {
     let mut before = 0;
     let mut rest = marks;

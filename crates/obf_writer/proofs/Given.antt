@@ -1,0 +1,43 @@
+-- What a writer is given are the parts of a file.
+use Rattle.std.proofs.Common.{◌≡◌, ◌≢◌, ◌≤◌, List, [], length, map, refl, ap}
+use Rattle.std.specs.Prelude.{Contains, IsTrue}
+use Rattle.std.specs.List.{AllByRecursion}
+use Rattle.std.specs.List.Sorted.{IsSorted}
+use Rattle.std.specs.Ordering.{nat_cmp}
+use Rattle.live_model.specs.declared.levels.Level.{Level}
+use Rattle.live_model.specs.declared.levels.Level.TheVariants.{Base, Hour, Day, Month}
+use Rattle.live_model.specs.declared.records.MapRec.{MapRec}
+use Rattle.live_model.specs.declared.rules.Rule.{Rule}
+use Rattle.live_model.specs.Fits.{FitsMap}
+use Rattle.live_model.specs.Ids.{Id, IsId, ordinal}
+use Rattle.live_model.specs.Levels.{level_number}
+use Rattle.live_model.specs.Ordered.{IsRisingBy}
+use Rattle.live_model.specs.Records.{map_cmp}
+use Rattle.live_model.specs.Rules.{IsRule}
+use Rattle.stamp_core.specs.declared.head.Head.{Head}
+use Rattle.file_grammar.specs.Files.{head_numbers, is_head}
+use Rattle.map_section.proofs.Sorting.{all_more}
+use Rattle.obf_writer.specs.PackedFile.{AreParts}
+use Rattle.obf_writer.proofs.MarkSums.{contains_image, ordinals_of_ids, rising_image}
+
+base_is : (level : Level) → level_number level ≡ 0 → level ≡ Base
+base_is Base e = refl
+base_is Hour e = absurd cc
+base_is Day e = absurd cc
+base_is Month e = absurd cc
+
+pub given_parts : (head : Head) (rules : List Rule) (marks : List Id) (records : List MapRec) → IsTrue (is_head (head_numbers head)) → AllByRecursion IsRule rules × (length rules ≤ 100000)
+    → IsRisingBy nat_cmp ordinal marks → AllByRecursion IsId marks → (head.level ≡ Base → marks ≡ []) → IsSorted map_cmp records → AllByRecursion (FitsMap rules) records
+    → (head.level ≢ Base → AllByRecursion (λ m. Contains marks m.id) records) → AreParts (head_numbers head) rules (map ordinal marks) records
+given_parts head rules marks records good spelled rise ids base sorted fit marked = record {
+  good = good;
+  spelled = spelled;
+  rise = rising_image ordinal marks rise;
+  ordinals = ordinals_of_ids marks ids;
+  base = λ e. ap (map ordinal) (base (base_is head.level e));
+  sorted = sorted;
+  fit = fit;
+  marked = λ above.
+      all_more (λ (m : MapRec). Contains marks m.id) (λ (m : MapRec). Contains (map ordinal marks) (ordinal m.id)) records
+      (λ m c. contains_image ordinal marks m.id c) (marked (λ e. above (ap level_number e)));
+}
