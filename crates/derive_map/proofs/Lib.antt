@@ -1,1 +1,5 @@
 mod Drawn
+mod Lists
+mod WholeMaps
+mod RecordOrder
+mod FittingRecords

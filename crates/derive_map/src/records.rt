@@ -1,9 +1,10 @@
 //! Map records.
 
-ghost use Rattle.std.specs.Prelude.{◌≡◌, ◌+◌, [], ◌∷◌, IfOk, IsTrue, MatchOption};
+ghost use Rattle.std.specs.Prelude.{◌≡◌, ◌+◌, [], ◌∷◌, IfOk, IsTrue, IsUtf8, MatchOption};
 ghost use Rattle.live_model.specs.Records.{is_map, map_records, map_records_of};
 ghost use Rattle.object_geometry.specs.Referred.{referred_in};
 ghost use Rattle.derive_map.specs.Drawings.{map_rules, drawing, drawings};
+ghost use Rattle.derive_map.specs.MapRecords.{AreNamed};
 
 use entity_store::Look;
 use live_model::{Class, Entity, List, MapRec, Mem, ObjId, Point, Rule, Steps, Text};
@@ -39,8 +40,14 @@ fn records_at(alloc: Global, rules: &Rules, look: &Look<'_>, id: &ObjId) -> Mem<
 }
 
 /// The map records of an object. Its points are looked for only where a rule of the map can match.
-fn records_of(alloc: Global, rules: &Rules, look: &Look<'_>, entity: &Entity) -> Mem<Vec<MapRec>>
-    ensures { IfOk result (λ records. records.items ≡ map_records rules.now entity.now (referred_in look.now entity.now)) }
+pub(crate) fn records_of(
+    alloc: Global,
+    rules: &Rules,
+    look: &Look<'_>,
+    entity: &Entity,
+) -> Mem<Vec<MapRec>>
+    ensures records { IfOk result (λ records. records.items ≡ map_records rules.now entity.now (referred_in look.now entity.now)) }
+    ensures named { IfOk result (λ records. AreNamed records.items) }
 {
     let Some(_) = next_drawn(&mut Matches::new(rules, entity)) else {
         return Ok(Vec::new(alloc));
@@ -54,7 +61,8 @@ fn records_of(alloc: Global, rules: &Rules, look: &Look<'_>, entity: &Entity) ->
 
 /// An object with these points as all rules of the map that match it draw it.
 fn drawings(alloc: Global, rules: &Rules, entity: &Entity, points: &[Point]) -> Mem<Vec<MapRec>>
-    ensures { IfOk result (λ records. records.items ≡ drawings rules.now entity.now points.now) }
+    ensures records { IfOk result (λ records. records.items ≡ drawings rules.now entity.now points.now) }
+    ensures named { IfOk result (λ records. AreNamed records.items) }
 {
     let mut matches = Matches::new(rules, entity);
     let mut records = Vec::new(alloc);
@@ -85,7 +93,8 @@ fn is_map(class: &Class) -> bool
 
 /// An object with these points as the rule at this place draws it.
 fn drawing(alloc: Global, entity: &Entity, points: &[Point], index: u32, rule: &Rule) -> Mem<MapRec>
-    ensures { IfOk result (λ drawn. drawn ≡ drawing entity.now points.now (index, rule.now)) }
+    ensures drawn { IfOk result (λ drawn. drawn ≡ drawing entity.now points.now (index, rule.now)) }
+    ensures named { IfOk result (λ drawn. IsUtf8 drawn.name) }
 {
     let name = Text::copied(alloc, name(entity))?;
     let points = points.to_vec(alloc)?;

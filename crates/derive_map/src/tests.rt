@@ -2,7 +2,7 @@
 
 ghost use Rattle.std.specs.Prelude.{◌≡◌, ◌<◌};
 
-use crate::derive;
+use crate::{derive, derive_all};
 use entity_store::{Look, Store};
 use live_model::{Entity, Kind, Line, List, MapRec, Mem, ObjId, Point, Shape, Steps, Tag, Text};
 use std::alloc::Global;
@@ -38,6 +38,24 @@ fn counted<L: Ledger>(
 
 fn derived(alloc: Global, rules: &Rules, look: &Look<'_>, id: &ObjId) -> Mem<Vec<MapRec>> {
     counted::<Brand>(alloc, rules, look, id, Blank::new(1))
+}
+
+fn all_counted<L: Ledger>(
+    alloc: Global,
+    rules: &Rules,
+    store: &Store,
+    blank: Blank,
+) -> Mem<Vec<MapRec>>
+    requires name { blank.name ≡ L.name }
+    requires parts { blank.parts ≡ L.parts }
+    requires some { 0 < blank.parts }
+{
+    let mut steps = Steps::<L>::new(blank);
+    derive_all(alloc, rules, store, &mut steps)
+}
+
+fn all_derived(alloc: Global, rules: &Rules, store: &Store) -> Mem<Vec<MapRec>> {
+    all_counted::<Brand>(alloc, rules, store, Blank::new(1))
 }
 
 fn id(kind: Kind, number: i64) -> Result<ObjId, Fail> {
@@ -165,6 +183,15 @@ fn seen(alloc: Global, records: &[MapRec]) -> Mem<Vec<(u32, Shape, usize)>> {
     Ok(rows)
 }
 
+/// The numbers of the objects that the records were made of.
+fn numbers(alloc: Global, records: &[MapRec]) -> Mem<Vec<i64>> {
+    let mut numbers = Vec::new(alloc);
+    for record in records {
+        numbers.push(record.id.number())?;
+    }
+    Ok(numbers)
+}
+
 #[test]
 fn rules_draw_objects(rt: HostRuntime) -> Result<(), Fail> {
     let alloc = rt.alloc();
@@ -227,5 +254,37 @@ fn a_record_has_the_name_and_the_place(rt: HostRuntime) -> Result<(), Fail> {
         record.points.as_slice(),
         [Point { x: 10, y: 20 }].as_slice()
     );
+    Ok(())
+}
+
+#[test]
+fn a_store_has_the_records_of_its_objects_in_order(rt: HostRuntime) -> Result<(), Fail> {
+    let alloc = rt.alloc();
+    let rules = Rules::read(alloc, TOWN.as_bytes())?;
+    let store = town(alloc)?;
+    let records = all_derived(alloc, &rules, &store)?;
+    assert_eq!(rt;
+        numbers(alloc, &records)?.as_slice(),
+        [1, 20, 22, 22, 23].as_slice()
+    );
+    assert_eq!(rt;
+        seen(alloc, &records)?.as_slice(),
+        [
+            (1, Shape::Point, 1),
+            (3, Shape::Line, 2),
+            (3, Shape::Line, 4),
+            (7, Shape::Area, 4),
+            (3, Shape::Line, 3)
+        ]
+        .as_slice()
+    );
+    Ok(())
+}
+
+#[test]
+fn an_empty_store_has_no_records(rt: HostRuntime) -> Result<(), Fail> {
+    let alloc = rt.alloc();
+    let rules = Rules::read(alloc, TOWN.as_bytes())?;
+    assert!(rt; all_derived(alloc, &rules, &Store::empty(alloc))?.is_empty());
     Ok(())
 }

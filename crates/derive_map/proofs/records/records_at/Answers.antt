@@ -7,7 +7,7 @@ pub returns-in-Some : goal.returns-in-Some
 unfolding map_records_of
 returns-in-Some c =
     subst (λ rs. IfOk c.records_of.result (λ records. records.items ≡ rs))
-    (sym (made_of_object (map_records c.args.rules.now) c.args.look.now c.args.id.now c.in-Some.entity.now c.in-Some.ensures.found)) c.records_of.ensures
+    (sym (made_of_object (map_records c.args.rules.now) c.args.look.now c.args.id.now c.in-Some.entity.now c.in-Some.ensures.found)) c.records_of.ensures.records
 
 pub returns-in-None : goal.returns-in-None
 unfolding map_records_of
