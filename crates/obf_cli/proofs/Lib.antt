@@ -1,1 +1,5 @@
-pub mod Completion
+mod GoodTexts
+mod Outcomes
+mod Causes
+mod Completion
+mod RunRows

@@ -1,4 +1,8 @@
 pub mod Requests
+pub mod Inputs
+pub mod FileLines
 pub mod Jobs
-pub mod StatusLines
+pub mod Endings
+pub mod Reads
 pub mod Runs
+pub mod Finishing

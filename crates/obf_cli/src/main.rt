@@ -5,7 +5,11 @@
 //! answer of a question is a definition of its own, over the store that the text of the base makes.
 #![tactic(auto)]
 
-mod answer;
+#[cfg(test)]
+mod build_tests;
+mod file_line;
+mod inputs;
+mod jobs;
 mod request;
 mod run;
 mod start;
@@ -19,6 +23,6 @@ use std::process::ExitCode;
 use std::sync::ledger::Blank;
 
 fn main(rt: HostRuntime) -> ExitCode {
-    let status = start::<Brand, _, _, _>(&rt, Blank::new(1), rt.stdout(), rt.stderr());
-    ExitCode::from(status.code())
+    let code = start::<Brand, _, _, _>(&rt, Blank::new(1), rt.stdout(), rt.stderr());
+    ExitCode::from(code)
 }

@@ -1,41 +1,39 @@
 //! The top call.
 
-ghost use Rattle.std.specs.Prelude.{◌≡◌, ◌⊎◌, Some};
-ghost use Rattle.obf_cli.specs.declared.status.Status.TheVariants as due;
-ghost use Rattle.obf_cli.specs.Requests.{asked, asked_by};
-ghost use Rattle.obf_cli.specs.Runs.{observed, Caused, Cause, KeepsFiles, NoFault, Settles, Completes, Tells, TellsLine};
-ghost use Rattle.obf_cli.specs.StatusLines.{status_line, NamesBase};
+ghost use Rattle.std.specs.Prelude.{◌≡◌, ◌⊎◌, IfErr, IfOk, Some};
+ghost use Rattle.obf_cli.specs.Endings.{NamesFile, ending, no_memory};
+ghost use Rattle.obf_cli.specs.Requests.{asked, asked_by, build};
+ghost use Rattle.obf_cli.specs.Runs.{Cause, Caused, Completes, IsLinePut, KeepsFiles, PutsLine, ReceivesNothing, observed};
+ghost use Rattle.obf_cli.specs.Jobs.{outcome_of};
+ghost use Rattle.obf_cli.specs.Finishing.{IsFinished, IsPut};
 
-use crate::answer::answer;
+use crate::inputs::LIMIT;
+use crate::jobs::{Built, built_file, check_answer, dump_answer, nodes_answer};
 use crate::request::{Request, read_request};
-use crate::status::{NO_MEMORY, Status, StatusLine, fixed_line};
+use crate::status::{NO_MEMORY, Status, fixed_line};
 use live_model::{Steps, Text};
-use opl_reader::OplError;
-use outside::{Files, Gate, Sink, WholeError, put_all, read_whole};
+use outside::{Files, Gate, Sink, put_all};
 use std::alloc::Global;
 use std::sync::Wait;
 use std::sync::ledger::Ledger;
 use std::thread::Threads;
 
-/// The most bytes that a base may have.
-const LIMIT: usize = 268_435_456;
-
-/// Runs the program on its words: reads files, puts the answer to `out`, and after any status but `Ok` puts the line of
-/// the status to `err`. It may wait.
-pub fn run<R: Wait + Threads + Sync, F: Files, K: Sink, E: Sink, G: Gate, L: Ledger>(
+/// Runs the program on its words: reads files, writes one where the words ask for it, puts the answer to `out`, and after any
+/// status but `Ok` puts the line of the status to `err`. It may wait.
+pub fn run<'a, R: Wait + Threads + Sync, F: Files, K: Sink, E: Sink, G: Gate, L: Ledger>(
     rt: &R,
     alloc: Global,
-    words: &[Text],
+    words: &'a [Text],
     files: &mut F,
     out: &mut K,
     err: &mut E,
     gate: &G,
     steps: &mut Steps<L>,
-) -> Status
-    ensures cause { Cause result words.now (observed (F.state files.old) (F.state files.new) (K.state out.old) (K.state out.new)) }
-    ensures files { KeepsFiles (observed (F.state files.old) (F.state files.new) (K.state out.old) (K.state out.new)) }
-    ensures complete { Completes result words.now (observed (F.state files.old) (F.state files.new) (K.state out.old) (K.state out.new)) }
-    ensures told { Tells result words.now (E.state err.old) (E.state err.new) }
+) -> Status<'a>
+    ensures cause { Cause (ending result) words.now (observed (F.state files.old) (F.state files.new) (K.state out.old) (K.state out.new)) }
+    ensures files { KeepsFiles (ending result) (asked_by words.now) (observed (F.state files.old) (F.state files.new) (K.state out.old) (K.state out.new)) }
+    ensures complete { Completes (ending result) words.now (observed (F.state files.old) (F.state files.new) (K.state out.old) (K.state out.new)) }
+    ensures told { PutsLine (ending result) (E.state err.old) (E.state err.new) }
 {
     let _ = rt;
     let _ = gate;
@@ -43,70 +41,120 @@ pub fn run<R: Wait + Threads + Sync, F: Files, K: Sink, E: Sink, G: Gate, L: Led
 }
 
 /// `run` for the words that need no thread: it returns.
-pub fn run_plain<F: Files, K: Sink, E: Sink, L: Ledger>(
+pub fn run_plain<'a, F: Files, K: Sink, E: Sink, L: Ledger>(
     alloc: Global,
-    words: &[Text],
+    words: &'a [Text],
     files: &mut F,
     out: &mut K,
     err: &mut E,
     steps: &mut Steps<L>,
-) -> Status
-    ensures cause { Cause result words.now (observed (F.state files.old) (F.state files.new) (K.state out.old) (K.state out.new)) }
-    ensures files { KeepsFiles (observed (F.state files.old) (F.state files.new) (K.state out.old) (K.state out.new)) }
-    ensures complete { Completes result words.now (observed (F.state files.old) (F.state files.new) (K.state out.old) (K.state out.new)) }
-    ensures told { Tells result words.now (E.state err.old) (E.state err.new) }
+) -> Status<'a>
+    ensures cause { Cause (ending result) words.now (observed (F.state files.old) (F.state files.new) (K.state out.old) (K.state out.new)) }
+    ensures files { KeepsFiles (ending result) (asked_by words.now) (observed (F.state files.old) (F.state files.new) (K.state out.old) (K.state out.new)) }
+    ensures complete { Completes (ending result) words.now (observed (F.state files.old) (F.state files.new) (K.state out.old) (K.state out.new)) }
+    ensures told { PutsLine (ending result) (E.state err.old) (E.state err.new) }
 {
-    let _ = steps;
     match read_request(words) {
         Some(request) => {
-            let status = answer_request(alloc, request, files, out);
-            report(alloc, status, request.base, err)
+            let status = answer_request(alloc, request, files, out, steps);
+            report(alloc, status, err)
         }
-        None => report(alloc, Status::BadWords, "", err),
+        None => report(alloc, Status::BadWords, err),
     }
 }
 
-/// Reads the base and puts the answer.
-#[tactic(auto, using(crate::proofs::Completion::answered_settles, crate::proofs::Completion::refused_settles))]
-fn answer_request<F: Files, K: Sink>(
+/// Does what is asked for.
+fn answer_request<'a, F: Files, K: Sink, L: Ledger>(
     alloc: Global,
-    request: Request<'_>,
+    request: Request<'a>,
     files: &mut F,
     out: &mut K,
-) -> Status
-    ensures cause { Caused result (observed (F.state files.old) (F.state files.new) (K.state out.old) (K.state out.new)) (asked request.entry.base.now request.entry.question) }
-    ensures files { KeepsFiles (observed (F.state files.old) (F.state files.new) (K.state out.old) (K.state out.new)) }
-    ensures complete { NoFault (observed (F.state files.old) (F.state files.new) (K.state out.old) (K.state out.new))
-        → Settles result (observed (F.state files.old) (F.state files.new) (K.state out.old) (K.state out.new)) (asked request.entry.base.now request.entry.question) }
+    steps: &mut Steps<L>,
+) -> Status<'a>
+    ensures cause { Caused (ending result) (observed (F.state files.old) (F.state files.new) (K.state out.old) (K.state out.new)) (asked request.entry) }
+    ensures files { KeepsFiles (ending result) (Some (asked request.entry)) (observed (F.state files.old) (F.state files.new) (K.state out.old) (K.state out.new)) }
 {
-    let text = match read_whole(alloc, files, request.base, LIMIT) {
-        Ok(text) => text,
-        Err(WholeError::NoMemory) => return Status::NoMemory,
-        Err(WholeError::Failed) => return Status::ReadFault,
-        Err(WholeError::OverLimit) => return Status::Limit,
-    };
-    match answer(alloc, request.question, text) {
-        Ok(answer) => match put_all(out, answer.as_slice()) {
-            Ok(()) => Status::Ok,
-            Err(_) => Status::WriteFault,
-        },
-        Err(OplError::NoMemory) => Status::NoMemory,
-        Err(OplError::Broken(first)) => Status::Refused(first),
+    match request {
+        Request::Nodes { rect, base } => print(nodes_answer(alloc, files, rect, base), out),
+        Request::Dump { base } => print(dump_answer(alloc, files, base), out),
+        Request::Build {
+            rules,
+            base,
+            output,
+        } => build(alloc, rules, base, output, files, out, steps),
+        Request::Check { file } => print(check_answer(alloc, files, file), out),
     }
 }
 
-/// Puts the line of the status. Where the line names the base and memory for it is refused, the status becomes
-/// `NoMemory`, whose line takes none.
-fn report<E: Sink>(alloc: Global, status: Status, base: &str, err: &mut E) -> Status
-    ensures status { (result ≡ status) ⊎ ((result ≡ due.NoMemory) × NamesBase status) }
-    ensures told { TellsLine (status_line result base.now) (E.state err.old) (E.state err.new) }
+/// Puts an answer, where there is one.
+fn print<'a, K: Sink>(answer: Result<Vec<u8>, Status<'a>>, out: &mut K) -> Status<'a>
+    ensures put { IfOk answer.entry (λ answer. IsPut (ending result) (K.state out.old) (K.state out.new) answer.items) }
+    ensures not_put { IfErr answer.entry (λ status. (ending result ≡ ending status) × ReceivesNothing (K.state out.old) (K.state out.new)) }
+{
+    match answer {
+        Ok(answer) => put_answer(&answer, out),
+        Err(status) => status,
+    }
+}
+
+/// Builds a map file, writes it, and puts its line.
+fn build<'a, F: Files, K: Sink, L: Ledger>(
+    alloc: Global,
+    rules: &'a str,
+    base: &'a str,
+    output: &'a str,
+    files: &mut F,
+    out: &mut K,
+    steps: &mut Steps<L>,
+) -> Status<'a>
+    ensures cause { Caused (ending result) (observed (F.state files.old) (F.state files.new) (K.state out.old) (K.state out.new)) (build rules.now base.now output.now) }
+    ensures files { KeepsFiles (ending result) (Some (build rules.now base.now output.now)) (observed (F.state files.old) (F.state files.new) (K.state out.old) (K.state out.new)) }
+{
+    match built_file(alloc, files, rules, base, steps) {
+        Ok(built) => finish(files, output, &built, out),
+        Err(status) => status,
+    }
+}
+
+/// Writes a file, unless it is too long, and then puts its line.
+fn finish<'a, F: Files, K: Sink>(
+    files: &mut F,
+    output: &'a str,
+    built: &Built,
+    out: &mut K,
+) -> Status<'a>
+    ensures { IsFinished (ending result) output.now (outcome_of built.now) (observed (F.state files.old) (F.state files.new) (K.state out.old) (K.state out.new)) }
+{
+    if built.bytes.len() > LIMIT {
+        return Status::Limit { file: output };
+    }
+    match files.write(output, &built.bytes) {
+        Ok(()) => put_answer(&built.line, out),
+        Err(_) => Status::WriteFault { file: output },
+    }
+}
+
+/// Puts an answer.
+fn put_answer<'a, K: Sink>(answer: &[u8], out: &mut K) -> Status<'a>
+    ensures { IsPut (ending result) (K.state out.old) (K.state out.new) answer.now }
+{
+    match put_all(out, answer) {
+        Ok(()) => Status::Ok,
+        Err(_) => Status::AnswerFault,
+    }
+}
+
+/// Puts the line of the status. Where the line names a file and memory for it is refused, the status becomes `NoMemory`, whose
+/// line takes none.
+fn report<'a, E: Sink>(alloc: Global, status: Status<'a>, err: &mut E) -> Status<'a>
+    ensures status { (ending result ≡ ending status.entry) ⊎ ((ending result ≡ no_memory) × NamesFile (ending status.entry)) }
+    ensures told { PutsLine (ending result) (E.state err.old) (E.state err.new) }
 {
     if let Some(line) = fixed_line(status) {
         tell(err, line);
         return status;
     }
-    let line = StatusLine { status, base };
-    match line.to_string(alloc) {
+    match status.to_string(alloc) {
         Ok(line) => {
             tell(err, line.as_str());
             status
@@ -120,7 +168,7 @@ fn report<E: Sink>(alloc: Global, status: Status, base: &str, err: &mut E) -> St
 
 /// Puts a line, as far as the sink takes it.
 fn tell<E: Sink>(err: &mut E, line: &str)
-    ensures { TellsLine line.now (E.state err.old) (E.state err.new) }
+    ensures { IsLinePut line.now (E.state err.old) (E.state err.new) }
 {
     let _ = put_all(err, line.as_bytes());
 }

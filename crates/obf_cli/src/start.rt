@@ -13,14 +13,14 @@ use std::sync::Wait;
 use std::sync::ledger::{Blank, Ledger};
 use std::thread::Threads;
 
-/// Runs the program on the arguments behind its name. Where memory for them is refused, the line of the status 6 is
+/// Runs the program on the arguments behind its name, and answers the exit code. Where memory for them is refused, the line of the status 6 is
 /// put; arguments of which one is no text ask for nothing.
 pub fn start<
     L: Ledger,
     R: Env + Files + AllocGlobal + Wait + Threads + Sync,
     O: Write + Drop,
     E: Write + Drop,
->(rt: &R, blank: Blank, out: O, err: E) -> Status
+>(rt: &R, blank: Blank, out: O, err: E) -> u8
     requires name { blank.name ≡ L.name }
     requires parts { blank.parts ≡ L.parts }
     requires some { 0 < blank.parts }
@@ -39,10 +39,11 @@ pub fn start<
             &mut err,
             &OpenGate,
             &mut steps,
-        ),
+        )
+        .code(),
         Err(_) => {
             let _ = put_all(&mut err, NO_MEMORY.as_bytes());
-            Status::NoMemory
+            Status::NoMemory.code()
         }
     }
 }

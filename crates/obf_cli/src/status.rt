@@ -1,92 +1,140 @@
 //! The statuses of a run, and the line that tells each of them.
 
-ghost use Rattle.std.specs.Prelude.{◌≡◌, ℕ, List, Some, MatchOption};
-ghost use Rattle.obf_cli.specs.StatusLines.{code_of, status_line, NamesBase};
+ghost use Rattle.std.specs.Prelude.{◌≡◌, Some, MatchOption};
+ghost use Rattle.obf_cli.specs.Endings.{NamesFile, code_of, ending, ending_line};
 
-use live_model::OplBreak;
+use live_model::{NoMemory, OplBreak, RuleBreak};
+use obf_wire::FileBreak;
 use std::fmt;
 
-/// How a run ended.
+/// The first break of a file, by what it is read as.
 #[derive(Clone, Copy, PartialEq, Eq, Debug)]
-pub enum Status {
-    /// The base was read to its end, and the whole answer was received.
-    Ok,
-    /// The words are none of the forms.
-    BadWords,
-    /// The base has a break, and this is the first.
-    Refused(OplBreak),
-    /// A read of the base failed.
-    ReadFault,
-    /// A put of the answer failed.
-    WriteFault,
-    /// Memory was refused.
-    NoMemory,
-    /// The base has more bytes than the program takes.
-    Limit,
+pub enum Break {
+    /// Of a table of rules.
+    InRules(RuleBreak),
+    /// Of a text of objects.
+    InObjects(OplBreak),
+    /// Of a map file.
+    InFile(FileBreak),
 }
 
-impl Status {
-    /// The exit code: 0, and 2 to 7 in the order above.
-    pub fn code(&self) -> u8
-        ensures { result ≡ code_of self.now }
-    {
+/// It displays as the name of its kind and its place, as in `BadId at 0`.
+impl fmt::Display for Break {
+    ghost use Rattle.std.specs.Prelude.{Some};
+    ghost use Rattle.obf_cli.specs.Inputs.{break_text};
+
+    ghost output = { λ first. Some (break_text first) };
+
+    fn fmt<W: fmt::Write>(&self, f: &mut fmt::Formatter<W>) -> fmt::Result {
         match self {
-            Status::Ok => 0,
-            Status::BadWords => 2,
-            Status::Refused(_) => 3,
-            Status::ReadFault => 4,
-            Status::WriteFault => 5,
-            Status::NoMemory => 6,
-            Status::Limit => 7,
+            Break::InRules(first) => {
+                let kind = first.kind;
+                let at = first.at;
+                write!(f, "{kind} at {at}")
+            }
+            Break::InObjects(first) => {
+                let kind = first.kind;
+                let at = first.at;
+                write!(f, "{kind} at {at}")
+            }
+            Break::InFile(first) => {
+                let kind = first.kind;
+                let at = first.at;
+                write!(f, "{kind} at {at}")
+            }
         }
     }
 }
 
-/// A status, and the name of the base as it was given. It displays as the line for the error sink, with
-/// its line feed, and as nothing for `Ok`.
-#[derive(Clone, Copy)]
-pub struct StatusLine<'a> {
-    pub status: Status,
-    pub base: &'a str,
+/// How a run ended. A file is named as it was given.
+#[derive(Clone, Copy, PartialEq, Eq, Debug)]
+pub enum Status<'a> {
+    /// All files were read to their ends, what was to be written was written, and the whole answer was received.
+    Ok,
+    /// The words are none of the forms.
+    BadWords,
+    /// The file has a break, and this is the first.
+    Refused { file: &'a str, first: Break },
+    /// A read of the file failed.
+    ReadFault { file: &'a str },
+    /// The write of the file failed.
+    WriteFault { file: &'a str },
+    /// A put of the answer failed.
+    AnswerFault,
+    /// Memory was refused.
+    NoMemory,
+    /// The file has, or would get, more bytes than the program takes.
+    Limit { file: &'a str },
 }
 
-impl fmt::Display for StatusLine<'_> {
-    ghost output = { λ line. Some (status_line line.status line.base.now) };
+impl Status<'_> {
+    /// The exit code: 0, and 2 to 7; of both faults of writing it is 5.
+    pub fn code(&self) -> u8
+        ensures { result ≡ code_of (ending self.now) }
+    {
+        match self {
+            Status::Ok => 0,
+            Status::BadWords => 2,
+            Status::Refused { .. } => 3,
+            Status::ReadFault { .. } => 4,
+            Status::WriteFault { .. } | Status::AnswerFault => 5,
+            Status::NoMemory => 6,
+            Status::Limit { .. } => 7,
+        }
+    }
+}
+
+impl From<NoMemory> for Status<'_> {
+    ghost use Rattle.std.specs.Prelude.{◌≡◌};
+    ghost use Rattle.obf_cli.specs.declared.status.Status.TheVariants.{NoMemory};
+
+    ghost from_gives = { λ _ status. status ≡ NoMemory };
+
+    fn from(_: NoMemory) -> Self {
+        Status::NoMemory
+    }
+}
+
+/// It displays as the line for the error sink, with its line feed, and as nothing for `Ok`.
+impl fmt::Display for Status<'_> {
+    ghost use Rattle.std.specs.Prelude.{Some};
+    ghost use Rattle.obf_cli.specs.Endings.{ending, ending_line};
+
+    ghost output = { λ status. Some (ending_line (ending status)) };
 
     fn fmt<W: fmt::Write>(&self, f: &mut fmt::Formatter<W>) -> fmt::Result {
-        let base = self.base;
-        match self.status {
+        match *self {
             Status::Ok => f.write_str(""),
             Status::BadWords => f.write_str(BAD_WORDS),
-            Status::Refused(first) => {
-                let kind = first.kind;
-                let at = first.at;
-                write!(f, "obf: {base}: {kind} at {at}\n")
-            }
-            Status::ReadFault => write!(f, "obf: cannot read {base}\n"),
-            Status::WriteFault => f.write_str(WRITE_FAULT),
+            Status::Refused { file, first } => write!(f, "obf: {file}: {first}\n"),
+            Status::ReadFault { file } => write!(f, "obf: cannot read {file}\n"),
+            Status::WriteFault { file } => write!(f, "obf: cannot write {file}\n"),
+            Status::AnswerFault => f.write_str(ANSWER_FAULT),
             Status::NoMemory => f.write_str(NO_MEMORY),
-            Status::Limit => write!(f, "obf: {base}: over the limit\n"),
+            Status::Limit { file } => write!(f, "obf: {file}: over the limit\n"),
         }
     }
 }
 
 const BAD_WORDS: &str = "obf: the words are none of the ten forms\n";
 
-const WRITE_FAULT: &str = "obf: cannot write the answer\n";
+const ANSWER_FAULT: &str = "obf: cannot write the answer\n";
 
 /// The line of the status 6.
 pub const NO_MEMORY: &str = "obf: no memory\n";
 
-/// The line of a status that does not name the base. `None` exactly where it does.
-pub fn fixed_line(status: Status) -> Option<&'static str>
-    ensures { MatchOption result (NamesBase status) (λ line. (base : List ℕ) → status_line status base ≡ line.now) }
+/// The line of a status that names no file. `None` exactly where it names one.
+pub fn fixed_line(status: Status<'_>) -> Option<&'static str>
+    ensures { MatchOption result (NamesFile (ending status.entry)) (λ line. ending_line (ending status.entry) ≡ line.now) }
 {
     match status {
         Status::Ok => Some(""),
         Status::BadWords => Some(BAD_WORDS),
-        Status::WriteFault => Some(WRITE_FAULT),
+        Status::AnswerFault => Some(ANSWER_FAULT),
         Status::NoMemory => Some(NO_MEMORY),
-        Status::Refused(_) | Status::ReadFault | Status::Limit => None,
+        Status::Refused { .. }
+        | Status::ReadFault { .. }
+        | Status::WriteFault { .. }
+        | Status::Limit { .. } => None,
     }
 }

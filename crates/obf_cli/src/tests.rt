@@ -131,7 +131,7 @@ static ROWS: [Row; 12] = [
     },
 ];
 
-fn texts(alloc: Global, words: &[&str]) -> Mem<Vec<Text>> {
+pub(super) fn texts(alloc: Global, words: &[&str]) -> Mem<Vec<Text>> {
     let mut texts = Vec::new(alloc);
     for word in words {
         let text = Text::copied(alloc, word)?;
@@ -140,7 +140,7 @@ fn texts(alloc: Global, words: &[&str]) -> Mem<Vec<Text>> {
     Ok(texts)
 }
 
-fn one_file(alloc: Global, name: &str, bytes: Vec<u8>) -> Mem<Vec<NamedFile>> {
+pub(super) fn one_file(alloc: Global, name: &str, bytes: Vec<u8>) -> Mem<Vec<NamedFile>> {
     let mut files = Vec::new(alloc);
     let name = Text::copied(alloc, name)?;
     files.push(NamedFile {
@@ -150,14 +150,14 @@ fn one_file(alloc: Global, name: &str, bytes: Vec<u8>) -> Mem<Vec<NamedFile>> {
     Ok(files)
 }
 
-fn ask_counted<L: Ledger>(
+fn ask_counted<'a, L: Ledger>(
     alloc: Global,
-    words: &[Text],
+    words: &'a [Text],
     files: &mut MemFiles,
     out: &mut MemSink,
     err: &mut MemSink,
     blank: Blank,
-) -> Status
+) -> Status<'a>
     requires name { blank.name ≡ L.name }
     requires parts { blank.parts ≡ L.parts }
     requires some { 0 < blank.parts }
@@ -166,25 +166,25 @@ fn ask_counted<L: Ledger>(
     run_plain(alloc, words, files, out, err, &mut steps)
 }
 
-fn ask(
+pub(super) fn ask<'a>(
     alloc: Global,
-    words: &[Text],
+    words: &'a [Text],
     files: &mut MemFiles,
     out: &mut MemSink,
     err: &mut MemSink,
-) -> Status {
+) -> Status<'a> {
     ask_counted::<Brand>(alloc, words, files, out, err, Blank::new(1))
 }
 
-fn wait_counted<R: Wait + Threads + Sync, L: Ledger>(
+fn wait_counted<'a, R: Wait + Threads + Sync, L: Ledger>(
     rt: &R,
     alloc: Global,
-    words: &[Text],
+    words: &'a [Text],
     files: &mut MemFiles,
     out: &mut MemSink,
     err: &mut MemSink,
     blank: Blank,
-) -> Status
+) -> Status<'a>
     requires name { blank.name ≡ L.name }
     requires parts { blank.parts ≡ L.parts }
     requires some { 0 < blank.parts }
@@ -193,14 +193,14 @@ fn wait_counted<R: Wait + Threads + Sync, L: Ledger>(
     run(rt, alloc, words, files, out, err, &OpenGate, &mut steps)
 }
 
-fn ask_where_it_may_wait<R: Wait + Threads + Sync>(
+fn ask_where_it_may_wait<'a, R: Wait + Threads + Sync>(
     rt: &R,
     alloc: Global,
-    words: &[Text],
+    words: &'a [Text],
     files: &mut MemFiles,
     out: &mut MemSink,
     err: &mut MemSink,
-) -> Status {
+) -> Status<'a> {
     wait_counted::<R, Brand>(rt, alloc, words, files, out, err, Blank::new(1))
 }
 
@@ -348,7 +348,7 @@ fn a_base_over_the_limit(rt: HostRuntime) -> Result<(), Fail> {
     let mut out = MemSink::new(alloc, Vec::new(alloc), 1);
     let mut err = MemSink::new(alloc, Vec::new(alloc), 100);
     let status = ask(alloc, words.as_slice(), &mut files, &mut out, &mut err);
-    assert_eq!(rt; status, Status::Limit);
+    assert_eq!(rt; status, Status::Limit { file: "large.opl" });
     assert_eq!(rt;
         err.received(),
         "obf: large.opl: over the limit\n".as_bytes()

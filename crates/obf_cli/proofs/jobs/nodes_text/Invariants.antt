@@ -1,6 +1,6 @@
 use Rattle.std.proofs.Common.{◌≡◌, ◌++◌, drop}
 use Rattle.live_model.specs.CanonicalLines.{lines_text, nodes_in}
-use Rattle.obf_cli.proofs.answer.nodes_text.Given as goal
+use Rattle.obf_cli.proofs.jobs.nodes_text.Given as goal
 
 -- the text so far, and that of the entities that are left
 abbrev pub invariant-loop-entity : goal.invariant-loop-entity

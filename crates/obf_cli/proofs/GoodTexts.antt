@@ -1,0 +1,40 @@
+-- Files that were read and are good.
+use Rattle.std.proofs.Common.{◌≡◌, ℕ, List, [], Option, Some, None, ap, subst}
+use Rattle.std.specs.Option.{option_map}
+use Rattle.live_model.specs.declared.objects.Entity.{Entity}
+use Rattle.live_model.specs.declared.objects.Line.{Line}
+use Rattle.live_model.specs.declared.opl.OplBreak.{OplBreak}
+use Rattle.live_model.specs.declared.rules.Rule.{Rule}
+use Rattle.live_model.specs.declared.rules.RuleBreak.{RuleBreak}
+use Rattle.live_model.specs.OplTexts.{OplText}
+use Rattle.live_model.specs.Rules.{RuleText}
+use Rattle.live_model.specs.Stores.{apply}
+use Rattle.live_model.proofs.TextReadings.{read_has_none as lines_have_none}
+use Rattle.tag_rules.proofs.RuleLaw.{read_has_none as rules_have_none}
+use Rattle.outside.specs.Files.{FilesState, OnlyReads}
+use Rattle.outside.specs.Whole.{IsWhole}
+use Rattle.obf_cli.specs.declared.status.Break.TheVariants.{InRules, InObjects}
+use Rattle.obf_cli.specs.Inputs.{Input, input, rule_table, object_text, break_in}
+use Rattle.obf_cli.specs.Jobs.{IsStoreOf}
+use Rattle.obf_cli.specs.Reads.{HasRead, limit}
+
+-- a text of rules, seen as the same bytes
+pub rules_read : (before after : FilesState) (name text seen : List ℕ) (rules : List Rule) → IsWhole before after name limit text → OnlyReads before after
+    → seen ≡ text → RuleText seen rules → HasRead before after (input name rule_table) (λ t. RuleText t rules)
+rules_read before after name text seen rules whole only same spelled =
+    let spelled : RuleText text rules = subst (λ (t : List ℕ). RuleText t rules) same spelled in
+    let good : break_in rule_table text ≡ None = ap (λ (b : Option RuleBreak). option_map (λ (b : RuleBreak). InRules b) b) (rules_have_none text rules spelled) in
+    record { text = text; read = record { whole = whole; good = good; only = only }; holds = spelled }
+
+-- a text of objects, seen as the same bytes
+pub lines_read : (before after : FilesState) (name text seen : List ℕ) (lines : List Line) → IsWhole before after name limit text → OnlyReads before after
+    → seen ≡ text → OplText seen lines → HasRead before after (input name object_text) (λ t. OplText t lines)
+lines_read before after name text seen lines whole only same spelled =
+    let spelled : OplText text lines = subst (λ (t : List ℕ). OplText t lines) same spelled in
+    let good : break_in object_text text ≡ None = ap (λ (b : Option OplBreak). option_map (λ (b : OplBreak). InObjects b) b) (lines_have_none text lines spelled) in
+    record { text = text; read = record { whole = whole; good = good; only = only }; holds = spelled }
+
+-- and the store that its lines make
+pub store_read : (before after : FilesState) (name : List ℕ) (lines : List Line) (store : List Entity) → HasRead before after (input name object_text) (λ t. OplText t lines)
+    → store ≡ apply [] lines → HasRead before after (input name object_text) (λ t. IsStoreOf t store)
+store_read before after name lines store has same = record { text = has.text; read = has.read; holds = record { lines = lines; spelled = has.holds; same = same } }

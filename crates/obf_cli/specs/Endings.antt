@@ -1,0 +1,58 @@
+-- How a run ends, and the line on the error sink that tells it.
+use Rattle.std.specs.Prelude.{ℕ, List, [], ◌++◌, codes}
+use Rattle.obf_cli.specs.Inputs.{break_text}
+use Rattle.obf_cli.specs.declared.status.Break.{Break}
+use Rattle.obf_cli.specs.declared.status.Status.{Status}
+use Rattle.obf_cli.specs.declared.status.Status.TheVariants as status
+
+-- the whole answer was received; the words ask for nothing; a file of this name has this break; a read of it failed; a write of it failed; a put of the
+-- answer failed; memory was wanting; the file is, or would get, over the limit
+pub data Ending : Type 0 where
+  done : Ending
+  bad_words : Ending
+  refused : (name : List ℕ) → Break → Ending
+  read_fault : (name : List ℕ) → Ending
+  write_fault : (name : List ℕ) → Ending
+  answer_fault : Ending
+  no_memory : Ending
+  over_limit : (name : List ℕ) → Ending
+
+-- the ending of a status
+abbrev pub ending : Status → Ending
+ending status.Ok = done
+ending status.BadWords = bad_words
+ending (status.Refused file first) = refused file.now first
+ending (status.ReadFault file) = read_fault file.now
+ending (status.WriteFault file) = write_fault file.now
+ending status.AnswerFault = answer_fault
+ending status.NoMemory = no_memory
+ending (status.Limit file) = over_limit file.now
+
+abbrev pub code_of : Ending → ℕ
+code_of done = 0
+code_of bad_words = 2
+code_of (refused name first) = 3
+code_of (read_fault name) = 4
+code_of (write_fault name) = 5
+code_of answer_fault = 5
+code_of no_memory = 6
+code_of (over_limit name) = 7
+
+-- nothing where the run is done, and else a whole line
+abbrev pub ending_line : Ending → List ℕ
+ending_line done = []
+ending_line bad_words = codes "obf: the words are none of the ten forms\n"
+ending_line (refused name first) = codes "obf: " ++ name ++ codes ": " ++ break_text first ++ codes "\n"
+ending_line (read_fault name) = codes "obf: cannot read " ++ name ++ codes "\n"
+ending_line (write_fault name) = codes "obf: cannot write " ++ name ++ codes "\n"
+ending_line answer_fault = codes "obf: cannot write the answer\n"
+ending_line no_memory = codes "obf: no memory\n"
+ending_line (over_limit name) = codes "obf: " ++ name ++ codes ": over the limit\n"
+
+-- the line names a file
+abbrev pub NamesFile : Ending → Type 0
+NamesFile (refused name first) = Unit {0}
+NamesFile (read_fault name) = Unit {0}
+NamesFile (write_fault name) = Unit {0}
+NamesFile (over_limit name) = Unit {0}
+NamesFile e = ⊥
