@@ -20,6 +20,3 @@ pub use tree::Tree;
 
 /// How many nodes a node holds at most.
 const FAN: usize = 8;
-
-#[cfg(test)]
-mod tests;

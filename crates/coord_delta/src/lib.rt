@@ -20,6 +20,3 @@ pub use error::CoordError;
 pub use laws::{one_reading, points_again};
 pub use reading::decode;
 pub use writing::encode;
-
-#[cfg(test)]
-mod tests;

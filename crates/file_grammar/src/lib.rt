@@ -18,6 +18,3 @@ pub use first::{FirstBreak, one_first_break};
 pub use laws::{heads_are_their_numbers, readings_are_messages, unbroken_bytes_are_files};
 pub use parts::{Boxed, Content, Group, Part};
 pub use walk::form;
-
-#[cfg(test)]
-mod tests;

@@ -34,12 +34,3 @@ pub use laws::{
 };
 pub use section::{Section, form, sound};
 pub use writing::write;
-
-#[cfg(test)]
-mod hostile_tests;
-#[cfg(test)]
-mod list_tests;
-#[cfg(test)]
-mod tests;
-#[cfg(test)]
-mod write_tests;

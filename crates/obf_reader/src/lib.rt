@@ -19,6 +19,3 @@ mod rule_text;
 mod spans;
 
 pub use image::{Image, images_are_files};
-
-#[cfg(test)]
-mod tests;

@@ -30,6 +30,3 @@ pub use laws::{
 pub use out::Out;
 pub use signed::{unzigzag, zigzag};
 pub use varint::{LONGEST_VARINT, read_varint};
-
-#[cfg(test)]
-mod tests;

@@ -15,6 +15,3 @@ mod marks;
 
 pub use file::write_file;
 pub use laws::packed_files_are_files;
-
-#[cfg(test)]
-mod tests;

@@ -15,6 +15,3 @@ mod table;
 pub use laws::one_table;
 pub use reading::Texts;
 pub use table::TextTable;
-
-#[cfg(test)]
-mod tests;
