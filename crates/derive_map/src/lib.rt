@@ -15,6 +15,3 @@ mod records;
 pub use all::derive_all;
 pub use laws::drawn_records_fit;
 pub use records::derive;
-
-#[cfg(test)]
-mod tests;

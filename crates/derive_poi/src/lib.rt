@@ -10,6 +10,3 @@
 mod records;
 
 pub use records::derive;
-
-#[cfg(test)]
-mod tests;

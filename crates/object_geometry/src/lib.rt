@@ -18,6 +18,3 @@ pub use middles::one_point;
 pub use names::{name, tagged};
 pub use nodes::{located_nodes, points};
 pub use outlines::{is_closed, shapes};
-
-#[cfg(test)]
-mod tests;

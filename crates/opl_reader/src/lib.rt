@@ -146,6 +146,3 @@ fn begins_with_hash(line: &[u8]) -> bool
         [] => false,
     }
 }
-
-#[cfg(test)]
-mod tests;

@@ -16,6 +16,3 @@ mod pieces;
 
 pub use laws::written_lines_read_back;
 pub use lines::{put_line, write};
-
-#[cfg(test)]
-mod tests;

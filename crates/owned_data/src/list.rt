@@ -97,30 +97,3 @@ impl<T: PartialEq> PartialEq for List<T> {
 impl<T: Eq> Eq for List<T> {
     ghost laws = { lists_equiv T.Eq.laws };
 }
-
-#[cfg(test)]
-mod tests {
-    use super::*;
-    use std::test::Fail;
-
-    fn shared<S: Send + Sync>(_: &S) {}
-
-    #[test]
-    fn keeps_what_was_pushed(rt: HostRuntime) -> Result<(), Fail> {
-        let mut list = List::new(rt.alloc());
-        assert!(rt; list.is_empty());
-        list.push(7u8)?;
-        list.push(9)?;
-        shared(&list);
-        assert_eq!(rt; list.len(), 2);
-        assert_eq!(rt; list.as_slice(), [7, 9].as_slice());
-        let same = List::from_vec(list.into_vec());
-        assert_eq!(rt; same.len(), 2);
-        let text = crate::Text::copied(rt.alloc(), "Straße")?;
-        shared(&text);
-        assert_eq!(rt; text.len(), 7);
-        assert!(rt; text.copy(rt.alloc())? == text);
-        assert!(rt; crate::Text::new(rt.alloc()).is_empty());
-        Ok(())
-    }
-}

@@ -12,8 +12,6 @@
 
 mod head;
 mod stamp;
-#[cfg(test)]
-mod tests;
 
 pub use head::Head;
 pub use live_model::Level;

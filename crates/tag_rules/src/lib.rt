@@ -22,6 +22,3 @@ pub use errors::RuleError;
 pub use laws::{readings_are_exact, tables_read_back};
 pub use live_model::{Class, Rule, RuleBreak, RuleKind, Shape};
 pub use table::Rules;
-
-#[cfg(test)]
-mod tests;

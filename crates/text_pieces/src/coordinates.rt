@@ -82,38 +82,3 @@ fn parted(bytes: &[u8]) -> (&[u8], &[u8])
         (bytes, &[])
     }
 }
-
-#[cfg(test)]
-mod tests {
-    use super::*;
-    use std::test::Fail;
-
-    const MOST_LONGITUDE: i64 = 1_800_000_000;
-
-    #[test]
-    fn reads_coordinates(rt: HostRuntime) -> Result<(), Fail> {
-        assert_eq!(rt; read_degrees("13.1", MOST_LONGITUDE), Some(131_000_000));
-        assert_eq!(rt; read_degrees("-0", MOST_LONGITUDE), Some(0));
-        assert_eq!(rt; read_degrees("180", MOST_LONGITUDE), Some(1_800_000_000));
-        assert_eq!(rt;
-            read_degrees("-007.0000001", MOST_LONGITUDE),
-            Some(-70_000_001)
-        );
-        assert_eq!(rt; degrees(b"-90.0", 900_000_000), Some(-900_000_000));
-        Ok(())
-    }
-
-    #[test]
-    fn refuses_what_is_no_coordinate(rt: HostRuntime) -> Result<(), Fail> {
-        assert_eq!(rt; read_degrees("180.0000001", MOST_LONGITUDE), None);
-        assert_eq!(rt; read_degrees("1.", MOST_LONGITUDE), None);
-        assert_eq!(rt; read_degrees(".5", MOST_LONGITUDE), None);
-        assert_eq!(rt; read_degrees("0012.5", MOST_LONGITUDE), None);
-        assert_eq!(rt; read_degrees("+1", MOST_LONGITUDE), None);
-        assert_eq!(rt; read_degrees("--1", MOST_LONGITUDE), None);
-        assert_eq!(rt; read_degrees("1.00000000", MOST_LONGITUDE), None);
-        assert_eq!(rt; read_degrees("0", -1), None);
-        assert_eq!(rt; degrees(b"90.0000001", 900_000_000), None);
-        Ok(())
-    }
-}

@@ -152,33 +152,3 @@ fn without_return(line: &[u8]) -> &[u8]
         line
     }
 }
-
-#[cfg(test)]
-mod tests {
-    use super::*;
-    use std::test::Fail;
-
-    #[test]
-    fn goes_from_line_to_line(rt: HostRuntime) -> Result<(), Fail> {
-        let first = next_line(5, b"n1\r\n\nw2 \r").ok_or("no first line")?;
-        assert_eq!(rt; (first.at, first.bytes), (5, b"n1".as_slice()));
-        let empty = next_line(first.next, first.rest).ok_or("no empty line")?;
-        assert_eq!(rt; (empty.at, empty.bytes), (9, b"".as_slice()));
-        let last = next_line(empty.next, empty.rest).ok_or("no last line")?;
-        assert_eq!(rt; (last.at, last.bytes), (10, b"w2 ".as_slice()));
-        assert!(rt; next_line(last.next, last.rest).is_none());
-        Ok(())
-    }
-
-    #[test]
-    fn goes_from_field_to_field(rt: HostRuntime) -> Result<(), Fail> {
-        let first = next_field(5, b" \tn1  v2").ok_or("no first field")?;
-        assert_eq!(rt; (first.at, first.bytes), (7, b"n1".as_slice()));
-        let last = next_field(first.next, first.rest).ok_or("no last field")?;
-        assert_eq!(rt; (last.at, last.bytes), (11, b"v2".as_slice()));
-        assert!(rt; next_field(last.next, last.rest).is_none());
-        assert!(rt; is_blank(b'\t') && !is_blank(b'\r'));
-        assert!(rt; all_blank(b" \t ") && all_blank(b"") && !all_blank(b" a"));
-        Ok(())
-    }
-}

@@ -110,34 +110,3 @@ pub(crate) fn with_sign(minus: bool, magnitude: u64) -> i64
         magnitude as i64
     }
 }
-
-#[cfg(test)]
-mod tests {
-    use super::*;
-    use std::test::Fail;
-
-    #[test]
-    fn reads_numbers(rt: HostRuntime) -> Result<(), Fail> {
-        assert!(rt; is_digit(b'0') && is_digit(b'9') && !is_digit(b'a'));
-        assert!(rt; is_digits(b"007", 3) && !is_digits(b"007", 2) && !is_digits(b"", 2));
-        assert_eq!(rt;
-            number(b"4294967295", 10, 4_294_967_295),
-            Some(4_294_967_295)
-        );
-        assert_eq!(rt; number(b"4294967296", 10, 4_294_967_295), None);
-        assert_eq!(rt; number(b"0000000001", 10, 9), Some(1));
-        assert_eq!(rt; number(b"99999999999999999999", 20, u64::MAX), None);
-        assert_eq!(rt; number(b"1-", 3, 100), None);
-        Ok(())
-    }
-
-    #[test]
-    fn reads_ids(rt: HostRuntime) -> Result<(), Fail> {
-        assert_eq!(rt; read_id(b"281474976710656"), Some(281_474_976_710_656));
-        assert_eq!(rt; read_id(b"-281474976710656"), Some(-281_474_976_710_656));
-        assert_eq!(rt; read_id(b"281474976710657"), None);
-        assert_eq!(rt; read_id(b"0000000000000001"), None);
-        assert_eq!(rt; read_id(b"-"), None);
-        Ok(())
-    }
-}

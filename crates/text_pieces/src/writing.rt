@@ -191,36 +191,3 @@ fn hexadecimal_digit(n: u8) -> u8
 {
     if n < 10 { b'0' + n } else { b'a' + (n - 10) }
 }
-
-#[cfg(test)]
-mod tests {
-    use super::*;
-    use std::test::Fail;
-
-    #[test]
-    fn writes_canonical_spellings(rt: HostRuntime) -> Result<(), Fail> {
-        let mut out = Vec::new(rt.alloc());
-        put_bytes(&mut out, b"n")?;
-        put_signed(&mut out, -17)?;
-        put_bytes(&mut out, b" v")?;
-        put_number(&mut out, 18_446_744_073_709_551_615)?;
-        put_bytes(&mut out, b" ")?;
-        put_escaped(&mut out, "Bo Bar")?;
-        put_escaped(&mut out, "\t=\u{7f},%@~\u{df}!")?;
-        let expected = b"n-17 v18446744073709551615 Bo%20%Bar%09%%3d%%7f%%2c%%25%%40%~\xc3\x9f!";
-        assert_eq!(rt; out.as_slice(), expected.as_slice());
-        Ok(())
-    }
-
-    #[test]
-    fn writes_coordinates(rt: HostRuntime) -> Result<(), Fail> {
-        let mut out = Vec::new(rt.alloc());
-        for value in [131_001_000, -1, 0, -1_800_000_000, 10_000_000, 5_000_000] {
-            put_degrees(&mut out, value)?;
-            put_bytes(&mut out, b" ")?;
-        }
-        let expected = b"13.1001 -0.0000001 0 -180 1 0.5 ";
-        assert_eq!(rt; out.as_slice(), expected.as_slice());
-        Ok(())
-    }
-}

@@ -1,4 +1,0 @@
-use Rattle.derive_map.proofs.tests.all_derived.Given as goal
-
-abbrev pub ghosts-all_counted : goal.ghosts-all_counted
-ghosts-all_counted a = record { name = a.blank.name; parts = a.blank.parts }
