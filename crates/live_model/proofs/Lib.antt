@@ -9,6 +9,3 @@ pub mod CanonicalParts
 pub mod CanonicalValues
 pub mod CanonicalRows
 pub mod CanonicalTexts
-mod WorkedRows
-mod RuleRows
-mod RecordRows

@@ -12,11 +12,11 @@ use Rattle.std.specs.Cmp.{IsTotalOrder}
 use Rattle.std.proofs.lemmas.List.Sorted.{sorted_far, ranks_by}
 use Rattle.std.proofs.lemmas.List.Elements.{filter-append}
 use Rattle.std.proofs.lemmas.List.{reverse-append, append-nil}
-use Rattle.live_model.specs.Ordered.{IsRisingBy, below, above, put_by, put_all}
+use Rattle.live_model.specs.Ordered.{IsRisingBy, below, above, put_by, without_by, put_all}
 
 module _ {A : Type 0} where
   -- what holds of each item holds of each that is kept
-  all_filter : (P : A → Type 0) (q : A → Bool) (xs : List A) → AllByRecursion P xs → AllByRecursion P (filter q xs)
+  pub all_filter : (P : A → Type 0) (q : A → Bool) (xs : List A) → AllByRecursion P xs → AllByRecursion P (filter q xs)
   all_filter P q [] all = tt
   all_filter P q (x ∷ xs) all =
       elim (q x) as (λ b. AllByRecursion P (cond b (x ∷ filter q xs) (filter q xs))) [
@@ -24,20 +24,20 @@ module _ {A : Type 0} where
         | false ↦ all_filter P q xs all.1
       ]
 
-  all_append : (P : A → Type 0) (xs ys : List A) → AllByRecursion P xs → AllByRecursion P ys → AllByRecursion P (xs ++ ys)
+  pub all_append : (P : A → Type 0) (xs ys : List A) → AllByRecursion P xs → AllByRecursion P ys → AllByRecursion P (xs ++ ys)
   all_append P [] ys a b = b
   all_append P (x ∷ xs) ys a b = (a.0, all_append P xs ys a.1 b)
 
-  all_map : (P Q : A → Type 0) (xs : List A) → ((x : A) → P x → Q x) → AllByRecursion P xs → AllByRecursion Q xs
+  pub all_map : (P Q : A → Type 0) (xs : List A) → ((x : A) → P x → Q x) → AllByRecursion P xs → AllByRecursion Q xs
   all_map P Q [] f all = tt
   all_map P Q (x ∷ xs) f all = (f x all.0, all_map P Q xs f all.1)
 
   -- nothing is kept where no item passes
-  filter_no : (q : A → Bool) (xs : List A) → AllByRecursion (λ x. q x ≡ false) xs → filter q xs ≡ []
+  pub filter_no : (q : A → Bool) (xs : List A) → AllByRecursion (λ x. q x ≡ false) xs → filter q xs ≡ []
   filter_no q [] all = refl
   filter_no q (x ∷ xs) all = rw all.0 (filter_no q xs all.1)
 
-  filter_all : (q : A → Bool) (xs : List A) → AllByRecursion (λ x. q x ≡ true) xs → filter q xs ≡ xs
+  pub filter_all : (q : A → Bool) (xs : List A) → AllByRecursion (λ x. q x ≡ true) xs → filter q xs ≡ xs
   filter_all q [] all = refl
   filter_all q (x ∷ xs) all = rw all.0 (ap (λ ys. x ∷ ys) (filter_all q xs all.1))
 
@@ -51,7 +51,7 @@ module _ {A : Type 0} where
       ]
 
   -- a test that the first test implies is not touched by it
-  filter_weak : (p q : A → Bool) (xs : List A) → ((x : A) → p x ≡ true → q x ≡ true) → filter p (filter q xs) ≡ filter p xs
+  pub filter_weak : (p q : A → Bool) (xs : List A) → ((x : A) → p x ≡ true → q x ≡ true) → filter p (filter q xs) ≡ filter p xs
   filter_weak p q [] imply = refl
   filter_weak p q (x ∷ xs) imply = one (p x) (q x) refl refl (filter_weak p q xs imply)
     where
@@ -62,7 +62,7 @@ module _ {A : Type 0} where
       one true false e f again = let g = imply x e in absurd (cc)
 
   -- two tests that exclude each other keep nothing
-  filter_apart : (p q : A → Bool) (xs : List A) → ((x : A) → q x ≡ true → p x ≡ false) → filter p (filter q xs) ≡ []
+  pub filter_apart : (p q : A → Bool) (xs : List A) → ((x : A) → q x ≡ true → p x ≡ false) → filter p (filter q xs) ≡ []
   filter_apart p q [] apart = refl
   filter_apart p q (x ∷ xs) apart = one (q x) refl (filter_apart p q xs apart)
     where
@@ -71,11 +71,11 @@ module _ {A : Type 0} where
       one false f again = again
 
   -- the first item alone, and the last item alone or what was there
-  abbrev first_alone : List A → List A
+  abbrev pub first_alone : List A → List A
   first_alone [] = []
   first_alone (x ∷ xs) = x ∷ []
 
-  abbrev last_alone : List A → List A → List A
+  abbrev pub last_alone : List A → List A → List A
   last_alone old [] = old
   last_alone old (x ∷ xs) = last_alone (x ∷ []) xs
 
@@ -91,7 +91,7 @@ module _ {A : Type 0} where
         | false ↦ refl
       ]
 
-  filter_alike : (p q : A → Bool) (xs : List A) → ((x : A) → p x ≡ q x) → filter p xs ≡ filter q xs
+  pub filter_alike : (p q : A → Bool) (xs : List A) → ((x : A) → p x ≡ q x) → filter p xs ≡ filter q xs
   filter_alike p q [] alike = refl
   filter_alike p q (x ∷ xs) alike = rw (alike x, filter_alike p q xs alike) refl
 
@@ -104,7 +104,7 @@ self_reverse Less e = absurd (cc)
 self_reverse Equal e = refl
 self_reverse Greater e = absurd (cc)
 
-lt_less : (r : Ordering) → is_lt r ≡ true → r ≡ Less
+pub lt_less : (r : Ordering) → is_lt r ≡ true → r ≡ Less
 lt_less Less e = refl
 lt_less Equal e = absurd (cc)
 lt_less Greater e = absurd (cc)
@@ -131,7 +131,7 @@ neither_eq Greater = refl
 
 module _ {A K : Type 0} (cmp : K → K → Ordering) (key : A → K) (o : IsTotalOrder cmp) where
   -- items with one key
-  abbrev same : A → A → Bool
+  abbrev pub same : A → A → Bool
   same x y = is_eq (cmp (key x) (key y))
 
   same_self : (x : A) → same x x ≡ true
@@ -151,7 +151,7 @@ module _ {A K : Type 0} (cmp : K → K → Ordering) (key : A → K) (o : IsTota
   none_same z x [] less all = refl
   none_same z x (y ∷ ys) less all = rw (o.trans (key z) (key x) (key y) less all.0) (none_same z x ys less all.1)
 
-  none_same_over : (z x : A) (xs : List A) → same z x ≡ true → AllByRecursion (λ y. cmp (key x) (key y) ≡ Less) xs → filter (same z) xs ≡ []
+  pub none_same_over : (z x : A) (xs : List A) → same z x ≡ true → AllByRecursion (λ y. cmp (key x) (key y) ≡ Less) xs → filter (same z) xs ≡ []
   none_same_over z x [] e all = refl
   none_same_over z x (y ∷ ys) e all = rw (sym (same_compares z x (key y) e) ∙ all.0) (none_same_over z x ys e all.1)
 
@@ -246,7 +246,7 @@ module _ {A K : Type 0} (cmp : K → K → Ordering) (key : A → K) (o : IsTota
           let upper : filter (same x) (above cmp key (key y) xs) ≡ filter (same x) xs = filter_weak (same x) (λ z. is_gt (cmp (key z) (key y))) xs (weak_above e) in
           rw (lower, upper) refl
 
-  put_all_same : (z : A) (xs ps : List A) → filter (same z) (put_all cmp key xs ps) ≡ last_alone (filter (same z) xs) (filter (same z) ps)
+  pub put_all_same : (z : A) (xs ps : List A) → filter (same z) (put_all cmp key xs ps) ≡ last_alone (filter (same z) xs) (filter (same z) ps)
   put_all_same z xs [] = refl
   put_all_same z xs (y ∷ ys) =
       put_all_same z (put_by cmp key y xs) ys
@@ -258,7 +258,7 @@ module _ {A K : Type 0} (cmp : K → K → Ordering) (key : A → K) (o : IsTota
 
   -- What is put rises.
 
-  rising_filter : (q : A → Bool) (xs : List A) → IsRisingBy cmp key xs → IsRisingBy cmp key (filter q xs)
+  pub rising_filter : (q : A → Bool) (xs : List A) → IsRisingBy cmp key xs → IsRisingBy cmp key (filter q xs)
   rising_filter q [] rising = tt
   rising_filter q (x ∷ xs) rising =
       elim (q x) as (λ b. IsRisingBy cmp key (cond b (x ∷ filter q xs) (filter q xs))) [
@@ -295,6 +295,14 @@ module _ {A K : Type 0} (cmp : K → K → Ordering) (key : A → K) (o : IsTota
       (all_map (λ x. cmp (key x) (key y) ≡ Less) (λ x. AllByRecursion (λ z. cmp (key x) (key z) ≡ Less) (y ∷ above cmp key (key y) xs)) (below cmp key (key y) xs)
       (λ x less. (less, all_map (λ z. cmp (key y) (key z) ≡ Less) (λ z. cmp (key x) (key z) ≡ Less) (above cmp key (key y) xs) (λ z over. o.trans (key x) (key y) (key z) less over) more))
       (below_kept (key y) xs))
+
+  pub rising-without_by : (k : K) (xs : List A) → IsRisingBy cmp key xs → IsRisingBy cmp key (without_by cmp key k xs)
+  rising-without_by k xs rising =
+      let more = above_kept k xs in
+      rising_joined (below cmp key k xs) (above cmp key k xs) (rising_filter _ xs rising) (rising_filter _ xs rising)
+      (all_map (λ x. cmp (key x) k ≡ Less) (λ x. AllByRecursion (λ z. cmp (key x) (key z) ≡ Less) (above cmp key k xs)) (below cmp key k xs)
+      (λ x less. all_map (λ z. cmp k (key z) ≡ Less) (λ z. cmp (key x) (key z) ≡ Less) (above cmp key k xs) (λ z over. o.trans (key x) k (key z) less over) more)
+      (below_kept k xs))
 
   -- A list that is put in order rises.
   pub rising-put_all : (xs ps : List A) → IsRisingBy cmp key xs → IsRisingBy cmp key (put_all cmp key xs ps)

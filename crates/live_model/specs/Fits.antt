@@ -1,5 +1,5 @@
 -- What a record must be so that it fits a table of rules: what can be written beside the table, and read again.
-use Rattle.std.specs.Prelude.{◌≡◌, ◌≢◌, ℕ, ◌≤◌, List, [], length, Some, IsTrue, IsUtf8}
+use Rattle.std.specs.Prelude.{◌≡◌, ◌≢◌, ℕ, ◌≤◌, List, [], length, ◌||◌, Some, IsTrue, IsUtf8}
 use Rattle.std.specs.List.{AllByRecursion, slice_get}
 use Rattle.live_model.specs.declared.ids.Kind.{Kind}
 use Rattle.live_model.specs.declared.ids.Kind.TheVariants.{Node, Way, Relation}
@@ -24,6 +24,7 @@ use Rattle.live_model.specs.Stores.{IsStore}
 use Rattle.live_model.specs.CanonicalLines.{HasTexts}
 use Rattle.live_model.specs.Rules.{IsRule, is_category, admits}
 use Rattle.live_model.specs.Closures.{node_id, way_id}
+use Rattle.live_model.specs.Records.{is_empty, is_language}
 use Rattle.live_model.specs.Maps.{map_of}
 
 -- a point is drawn of a node, a line and an area of a way
@@ -74,10 +75,16 @@ IsNumber Place number = number ≡ []
 IsNumber Street number = number ≡ []
 IsNumber House number = number ≢ []
 
+-- a place and a street are named plainly or in a language, a house plainly
+abbrev pub IsLanguageFor : AddrKind → List ℕ → Type 0
+IsLanguageFor House language = language ≡ []
+IsLanguageFor kind language = IsTrue (is_empty language || is_language language)
+
 -- an address, which is named
 pub record FitsAddress (a : AddrRec) : Type 0 where
   pub id : IsId a.id
   pub kind : IsAddressed a.kind a.id.kind
+  pub lang : IsLanguageFor a.kind a.lang
   pub name : IsUtf8 a.name × (a.name ≢ [])
   pub number : IsUtf8 a.number × IsNumber a.kind a.number
   pub grid : IsInGrid a.point
@@ -120,6 +127,6 @@ Fits rules (Ban b) = FitsRestriction b
 abbrev pub FitsRules : List Rule → List Rec → Type 0
 FitsRules rules records = AllByRecursion (Fits rules) records
 
--- The records that rules make of a store fit these rules. The law is stated here, and is not yet proved.
+-- The records that rules make of a store fit these rules.
 abbrev pub FitsLaw : Type 0
 FitsLaw = (rules : List Rule) (store : List Entity) → AllByRecursion IsRule rules → IsStore store → AllByRecursion HasTexts store → FitsRules rules (map_of rules store)

@@ -10,6 +10,7 @@ pub mod OplTexts
 pub mod CanonicalLines
 pub mod Rules
 pub mod Closures
+pub mod Users
 pub mod Geometry
 pub mod Records
 pub mod Maps

@@ -1,5 +1,4 @@
 -- What is to hold of maps, overlays, folds and the order of records, whatever the rules are.
--- These laws are stated here, and are not yet proved.
 use Rattle.std.specs.Prelude.{◌≡◌, List, [], ◌∷◌, false, map, flat_map, IsTrue}
 use Rattle.std.specs.List.{AllByRecursion}
 use Rattle.std.specs.Ordering.{nat_cmp}

@@ -1,6 +1,6 @@
 -- Points of the grid, and rectangles with all edges closed.
 -- A unit is the seventh place of a degree; x grows to the east from -180 degrees, y to the south from 90.
-use Rattle.std.specs.Prelude.{ℕ, ◌≤◌, List, [], ◌∷◌, Bool, IsTrue, ◌&&◌, nat_le, int_le, Option, Some, None, if◌then◌else◌, ℤ, pos, neg_ℤ, ◌-ℤ◌, unsigned_abs}
+use Rattle.std.specs.Prelude.{ℕ, ◌≤◌, List, [], ◌∷◌, Bool, IsTrue, ◌&&◌, nat_le, min, max, int_le, Option, Some, None, if◌then◌else◌, ℤ, pos, neg_ℤ, ◌-ℤ◌, unsigned_abs}
 use Rattle.text_pieces.specs.Lines.{fields_from}
 use Rattle.text_pieces.specs.Coordinates.{degrees_of}
 use Rattle.live_model.specs.declared.points.Point.{Point}
@@ -45,6 +45,10 @@ is_inside r p = (nat_le r.left p.x && nat_le p.x r.right) && (nat_le r.top p.y &
 -- no edge of the one lies beyond the opposite edge of the other
 abbrev pub overlaps : Rect → Rect → Bool
 overlaps a b = (nat_le a.left b.right && nat_le b.left a.right) && (nat_le a.top b.bottom && nat_le b.top a.bottom)
+
+-- the smallest rectangle around two
+abbrev pub union : Rect → Rect → Rect
+union a b = record { left = min a.left b.left; top = min a.top b.top; right = max a.right b.right; bottom = max a.bottom b.bottom }
 
 -- a point lies in both
 abbrev pub SharesPoint : Rect → Rect → Type 0

@@ -1,6 +1,6 @@
 -- The records that rules make of an object, and the order of records.
 -- An object comes with the ids that it refers to in order, each with its object, if there is one.
-use Rattle.std.specs.Prelude.{ℕ, List, [], ◌∷◌, ◌++◌, length, take, codes, Bool, true, false, ◌&&◌, ◌||◌, not, ◌==◌, Option, Some, None, if◌then◌else◌, unwrap_or, find, filter, map, filter_map, option_to_list, bytes_eq}
+use Rattle.std.specs.Prelude.{ℕ, List, [], ◌∷◌, ◌++◌, length, take, drop, codes, Bool, true, false, ◌&&◌, ◌||◌, not, nat_le, ◌==◌, Option, Some, None, if◌then◌else◌, unwrap_or, find, filter, map, filter_map, option_to_list, bytes_eq}
 use Rattle.std.specs.Option.{option_map, option_and_then}
 use Rattle.std.specs.List.{list_all, list_any, enumerate_from}
 use Rattle.std.specs.Ordering.{nat_cmp, int_cmp, ordering_then}
@@ -124,33 +124,67 @@ poi_records rules e referred = pois_at (point_of e referred) e (categories rules
 
 -- Addresses.
 
--- an address of an object
-abbrev pub address : Id → AddrKind → List ℕ → List ℕ → Point → AddrRec
-address id kind name number point = record { id = id; kind = kind; name = name; number = number; point = point }
+-- a letter, a digit, `-` or `_`
+abbrev pub is_language_byte : ℕ → Bool
+is_language_byte b =
+    (nat_le 97 b && nat_le b 122) || ((nat_le 65 b && nat_le b 90) || ((nat_le 48 b && nat_le b 57) || ((b == 45) || (b == 95))))
 
--- a named object that a rule of places matches
-abbrev pub place_record : List Rule → Entity → List (Id × Option Entity) → Option AddrRec
-place_record rules e referred =
-    wanted (has_class is_place rules e referred && not (is_empty (name_of e))) (option_map (address e.id Place (name_of e) []) (point_of e referred))
+-- a language: two to ten of them
+abbrev pub is_language : List ℕ → Bool
+is_language text = nat_le 2 (length text) && (nat_le (length text) 10 && list_all is_language_byte text)
 
--- a named object that a rule of roads matches; these match lines, which only ways have
-abbrev pub street_record : List Rule → Entity → List (Id × Option Entity) → Option AddrRec
-street_record rules e referred =
-    wanted (has_class is_road rules e referred && not (is_empty (name_of e))) (option_map (address e.id Street (name_of e) []) (point_of e referred))
+-- a language that stands behind `name:`
+abbrev pub named_language : List ℕ → List ℕ → Option (List ℕ)
+named_language key language = wanted (bytes_eq key (codes "name:" ++ language) && is_language language) (Some language)
+
+-- the language in which a tag with this key names an object: none of them, the empty one, for `name` alone
+abbrev pub language_of : List ℕ → Option (List ℕ)
+language_of key = if bytes_eq key (codes "name") then Some [] else named_language key (drop 5 key)
+
+-- a name that is not empty, behind its language
+abbrev pub language_and_name : Tag → Option (List ℕ × List ℕ)
+language_and_name t = wanted (not (is_empty t.value)) (option_map (λ language. (language, t.value)) (language_of t.key))
+
+-- the names of an object, each behind its language: the plain one, then those in languages, rising
+abbrev pub names_of : Entity → List (List ℕ × List ℕ)
+names_of e = filter_map language_and_name e.tags
+
+-- a place or a street by one of its names
+abbrev pub named_address : Id → AddrKind → Point → List ℕ × List ℕ → AddrRec
+named_address id kind point name = record { id = id; kind = kind; lang = name.0; name = name.1; number = []; point = point }
+
+-- a place or a street by each of these names, where the object has a point
+abbrev pub named_at : Option Point → Id → AddrKind → List (List ℕ × List ℕ) → List AddrRec
+named_at None id kind names = []
+named_at (Some point) id kind names = map (named_address id kind point) names
+
+-- an object that a rule of places matches, by each of its names
+abbrev pub place_records : List Rule → Entity → List (Id × Option Entity) → List AddrRec
+place_records rules e referred =
+    if has_class is_place rules e referred then named_at (point_of e referred) e.id Place (names_of e) else []
+
+-- an object that a rule of roads matches, by each of its names; these match lines, which only ways have
+abbrev pub street_records : List Rule → Entity → List (Id × Option Entity) → List AddrRec
+street_records rules e referred =
+    if has_class is_road rules e referred then named_at (point_of e referred) e.id Street (names_of e) else []
+
+-- a house of a street, with its number
+abbrev pub house : Id → List ℕ → List ℕ → Point → AddrRec
+house id street number point = record { id = id; kind = House; lang = []; name = street; number = number; point = point }
 
 -- a house with a street, a number and a point
-abbrev pub house_at : Entity → List ℕ → List ℕ → Option Point → Option AddrRec
-house_at e street number point = wanted (not (is_empty street) && not (is_empty number)) (option_map (address e.id House street number) point)
+abbrev pub house_at : Entity → List ℕ → List ℕ → Option Point → List AddrRec
+house_at e street number point =
+    option_to_list (wanted (not (is_empty street) && not (is_empty number)) (option_map (house e.id street number) point))
 
--- an object with geometry, a street and a number; no rule is asked
-abbrev pub house_record : Entity → List (Id × Option Entity) → Option AddrRec
-house_record e referred =
+-- an object with geometry, a street and a number, whatever the rules are
+abbrev pub house_records : Entity → List (Id × Option Entity) → List AddrRec
+house_records e referred =
     house_at e (tag_or_empty (codes "addr:street") e.tags) (tag_or_empty (codes "addr:housenumber") e.tags) (point_of e referred)
 
--- at most one of each kind
+-- places, streets, then at most one house
 abbrev pub address_records : List Rule → Entity → List (Id × Option Entity) → List AddrRec
-address_records rules e referred =
-    option_to_list (place_record rules e referred) ++ option_to_list (street_record rules e referred) ++ option_to_list (house_record e referred)
+address_records rules e referred = place_records rules e referred ++ street_records rules e referred ++ house_records e referred
 
 -- Roads.
 
@@ -177,15 +211,15 @@ road_records rules e referred = map (road_record e referred) (take 1 (matching_c
 
 -- Turn restrictions.
 
--- the object that all of these name, where they name one; one that is named twice counts once
-abbrev pub the_one : List Id → Option Id
-the_one [] = None
-the_one (id ∷ ids) = if list_all (same_id id) ids then Some id else None
+-- the only one of these, where there is exactly one; an object that is named twice is two
+abbrev pub the_only : List Id → Option Id
+the_only (id ∷ []) = Some id
+the_only ids = None
 
--- the object of this kind with this role, where there is exactly one
+-- the target of the only member of this kind with this role, where exactly one is written
 abbrev pub target_as : Kind → List ℕ → Entity → Option Id
 target_as kind role e =
-    the_one (map (λ m. m.target) (filter (λ m. (rank m.target.kind == rank kind) && bytes_eq m.role role) e.members))
+    the_only (map (λ m. m.target) (filter (λ m. (rank m.target.kind == rank kind) && bytes_eq m.role role) e.members))
 
 -- the node of this id, where it is among the objects and located
 abbrev pub located_among : List (Id × Option Entity) → Id → Option RoadNode
@@ -287,11 +321,11 @@ abbrev pub poi_cmp : PoiRec → PoiRec → Ordering
 poi_cmp a b =
     ordering_then (id_cmp a.id b.id) (ordering_then (text_cmp a.category b.category) (ordering_then (text_cmp a.name b.name) (point_cmp a.point b.point)))
 
--- by kind, name, number and point
+-- by kind, language, name, number and point
 abbrev pub naming_cmp : AddrRec → AddrRec → Ordering
 naming_cmp a b =
-    ordering_then (nat_cmp (address_rank a.kind) (address_rank b.kind)) (ordering_then (text_cmp a.name b.name)
-    (ordering_then (text_cmp a.number b.number) (point_cmp a.point b.point)))
+    ordering_then (nat_cmp (address_rank a.kind) (address_rank b.kind)) (ordering_then (text_cmp a.lang b.lang)
+    (ordering_then (text_cmp a.name b.name) (ordering_then (text_cmp a.number b.number) (point_cmp a.point b.point))))
 
 -- by id and kind, then by the other fields
 abbrev pub address_cmp : AddrRec → AddrRec → Ordering

@@ -35,10 +35,19 @@ direction_text Backward = codes "r"
 abbrev pub spaced : List (List ℕ) → List ℕ
 spaced pieces = flat_map (λ piece. 32 ∷ piece) pieces
 
+-- a language as a last piece, where there is one
+abbrev pub language_pieces : List ℕ → List (List ℕ)
+language_pieces [] = []
+language_pieces (b ∷ bs) = (b ∷ bs) ∷ []
+
+-- a place or a street, named in words, at a point, by a name and its language
+abbrev pub named_text : List ℕ → AddrRec → List ℕ
+named_text word a = codes "A" ++ spaced (id_text a.id ∷ word ∷ point_text a.point ∷ value_text a.name ∷ language_pieces a.lang)
+
 -- a place and a street with their name, a house with its number and its street
 abbrev pub address_text : AddrKind → AddrRec → List ℕ
-address_text Place a = codes "A" ++ spaced (id_text a.id ∷ codes "place" ∷ point_text a.point ∷ value_text a.name ∷ [])
-address_text Street a = codes "A" ++ spaced (id_text a.id ∷ codes "street" ∷ point_text a.point ∷ value_text a.name ∷ [])
+address_text Place a = named_text (codes "place") a
+address_text Street a = named_text (codes "street") a
 address_text House a = codes "H" ++ spaced (id_text a.id ∷ point_text a.point ∷ value_text a.number ∷ value_text a.name ∷ [])
 
 -- the line of a row without its line feed

@@ -18,12 +18,13 @@ pub enum AddrKind {
     House,
 }
 
-/// An address: a place or a street with its name, or a house with the name of its street and its number.
-/// Places and streets have the empty number.
+/// An address: a place or a street with its name in a language, or a house with the name of its street and
+/// its number. The plain name has the empty language, and so has a house; places and streets have the empty number.
 #[derive(Debug, Drop)]
 pub struct AddrRec {
     pub id: ObjId,
     pub kind: AddrKind,
+    pub lang: Text,
     pub name: Text,
     pub number: Text,
     pub point: Point,
@@ -34,18 +35,20 @@ impl AddrRec {
     pub fn copy(&self, alloc: Global) -> Mem<AddrRec>
         ensures { IfOk result (λ copied. copied ≡ self.now) }
     {
+        let lang = self.lang.copy(alloc)?;
         let name = self.name.copy(alloc)?;
         let number = self.number.copy(alloc)?;
         Ok(AddrRec {
             id: self.id,
             kind: self.kind,
+            lang,
             name,
             number,
             point: self.point,
         })
     }
 
-    /// By object and kind, then by name, number and point.
+    /// By object and kind, then by language, name, number and point.
     pub fn compare(&self, other: &AddrRec) -> Ordering
         ensures { result ≡ address_cmp self.now other.now }
     {
@@ -55,11 +58,12 @@ impl AddrRec {
             .then(self.compare_names(other))
     }
 
-    // By kind, name, number and point.
+    /// By kind, language, name, number and point.
     fn compare_names(&self, other: &AddrRec) -> Ordering
         ensures { result ≡ naming_cmp self.now other.now }
     {
         self.compare_kinds(other)
+            .then(self.lang.as_bytes().cmp(other.lang.as_bytes()))
             .then(self.name.as_bytes().cmp(other.name.as_bytes()))
             .then(self.number.as_bytes().cmp(other.number.as_bytes()))
             .then(self.point.cmp(&other.point))

@@ -21,8 +21,6 @@ mod rows;
 mod rules;
 mod shapes;
 mod steps;
-#[cfg(test)]
-mod tests;
 
 pub use addresses::{AddrKind, AddrRec};
 pub use classes::Class;

@@ -2,7 +2,8 @@
 
 ghost use Rattle.std.specs.Prelude.{◌≡◌, ◌↔◌, Some, None, MatchResult, IfOk, IfSome, IsTrue};
 ghost use Rattle.text_pieces.specs.Coordinates.{degrees_of};
-ghost use Rattle.live_model.specs.Points.{point_from, rect_from, rect_from_words, rect_of, is_inside, IsRect, SharesPoint, overlaps, longitude, latitude, IsInGrid};
+ghost use Rattle.live_model.specs.Geometry.{box_of, box_of_point, box_with};
+ghost use Rattle.live_model.specs.Points.{point_from, union, rect_from, rect_from_words, rect_of, is_inside, IsRect, SharesPoint, overlaps, longitude, latitude, IsInGrid};
 
 use text_pieces::{degrees, next_field};
 use thiserror::Error;
@@ -142,6 +143,55 @@ impl Rect {
         ensures { IsTrue result ↔ SharesPoint self.now other.now }
     {
         self.overlaps(other)
+    }
+
+    /// A point as a rectangle without width or height.
+    pub fn of_point(point: &Point) -> Rect
+        ensures { result ≡ box_of_point point.now }
+    {
+        Rect {
+            left: point.x,
+            top: point.y,
+            right: point.x,
+            bottom: point.y,
+        }
+    }
+
+    /// The smallest rectangle around points, the first of which is given apart.
+    pub fn around(first: &Point, others: &[Point]) -> Rect
+        ensures { result ≡ box_of first.now others.now }
+    {
+        let mut all = Rect::of_point(first);
+        let mut others = others;
+        while let [next, after @ ..] = others {
+            all = all.with_point(next);
+            others = after;
+        }
+        all
+    }
+
+    /// The smallest rectangle around this one and a point.
+    pub fn with_point(&self, point: &Point) -> Rect
+        ensures { result ≡ box_with self.now point.now }
+    {
+        Rect {
+            left: self.left.min(point.x),
+            top: self.top.min(point.y),
+            right: self.right.max(point.x),
+            bottom: self.bottom.max(point.y),
+        }
+    }
+
+    /// The smallest rectangle around this one and another.
+    pub fn union(&self, other: &Rect) -> Rect
+        ensures { result ≡ union self.now other.now }
+    {
+        Rect {
+            left: self.left.min(other.left),
+            top: self.top.min(other.top),
+            right: self.right.max(other.right),
+            bottom: self.bottom.max(other.bottom),
+        }
     }
 
     fn overlaps(&self, other: &Rect) -> bool

@@ -2,9 +2,10 @@
 
 ghost use Rattle.std.specs.Prelude.{◌≡◌, ◌<◌};
 
-use crate::{
+use live_model::{
     AddrKind, AddrRec, BanRec, Class, Dir, Entity, Kind, Level, Line, Lines, List, MapRec, Mem,
-    Member, ObjId, PoiRec, Point, Rec, Rect, RoadNode, RoadRec, Rule, Shape, Steps, Tag, Text,
+    Member, NoMemory, ObjId, PoiRec, Point, Rec, Rect, RoadNode, RoadRec, Rule, Shape, Steps, Tag,
+    Text,
 };
 use std::alloc::Global;
 use std::cmp::Ordering;
@@ -72,7 +73,7 @@ fn copies(alloc: Global) -> Mem<Line> {
     let mut refs = List::new(alloc);
     refs.push(7)?;
     match ObjId::new(Kind::Node, 1) {
-        None => Err(crate::NoMemory),
+        None => Err(NoMemory),
         Some(id) => Line::Live(Entity {
             id,
             version: 2,
@@ -178,6 +179,7 @@ fn address(alloc: Global, id: ObjId, kind: AddrKind, name: &str) -> Mem<Rec> {
     Ok(Rec::Addr(AddrRec {
         id,
         kind,
+        lang: Text::new(alloc),
         name: Text::copied(alloc, name)?,
         number: Text::copied(alloc, "3")?,
         point: FIRST_CORNER,

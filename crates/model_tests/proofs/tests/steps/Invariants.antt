@@ -1,4 +1,4 @@
-use Rattle.live_model.proofs.tests.steps.Given as goal
+use Rattle.model_tests.proofs.tests.steps.Given as goal
 
 abbrev pub ghosts-count : goal.ghosts-count
 ghosts-count a = record { name = a.blank.name; parts = a.blank.parts }
