@@ -1,0 +1,14 @@
+pub mod StableSort
+pub mod Picks
+pub mod Folds
+pub mod RecordOrder
+pub mod Names
+pub mod InOrder
+pub mod FoldLaws
+pub mod Untouched
+pub mod Turns
+pub mod ObjectRecords
+pub mod StoreMaps
+pub mod OverlayProof
+pub mod MoreLaws
+pub mod FitsProof

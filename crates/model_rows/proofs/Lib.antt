@@ -1,0 +1,4 @@
+mod WorkedRows
+mod RuleRows
+mod RecordRows
+mod LawRows
