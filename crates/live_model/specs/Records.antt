@@ -223,7 +223,7 @@ target_as kind role e =
 
 -- the node of this id, where it is among the objects and located
 abbrev pub located_among : List (Id × Option Entity) → Id → Option RoadNode
-located_among referred id = option_and_then located (find (λ object. same_id object.0 id) referred)
+located_among referred id = option_and_then (λ object. located (id, object.1)) (find (λ object. same_id object.0 id) referred)
 
 -- the restriction, where all of its parts are there
 abbrev pub restriction_from : Id → Option (List ℕ) → Option Id → Option RoadNode → Option Id → List BanRec

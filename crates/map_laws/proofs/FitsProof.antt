@@ -411,19 +411,23 @@ module _ (rules : List Rule) (are : AllByRecursion IsRule rules) (e : Entity) (i
       (all_mapped (λ t. IsId t × (e.id.kind ≡ Relation)) (λ m. m.target) (filter test e.members)
       (all_filter (λ m. IsId m.target × (e.id.kind ≡ Relation)) test e.members (of_relation e.id.kind e.place e.refs e.members is.parts is.members)))
 
-  via_fits : (o : Option Id) → IfSome (option_and_then (located_among refs) o) IsRoadNode
-  via_fits None = tt
-  via_fits (Some id) = one (find (λ object. same_id object.0 id) refs) (found IsFound (λ object. same_id object.0 id) refs fine)
+  via_fits : (o : Option Id) → IfSome o IsId → IfSome (option_and_then (located_among refs) o) IsRoadNode
+  via_fits None is_id = tt
+  via_fits (Some id) is_id = one (find (λ object. same_id object.0 id) refs) (found IsFound (λ object. same_id object.0 id) refs fine)
     where
-      one : (o : Option (Id × Option Entity)) → IfSome o IsFound → IfSome (option_and_then located o) IsRoadNode
+      one : (o : Option (Id × Option Entity)) → IfSome o IsFound → IfSome (option_and_then (λ object. located (id, object.1)) o) IsRoadNode
       one None h = tt
-      one (Some object) h = located_fits object.0 object.1 h.0 h.1
+      one (Some object) h = located_fits id object.1 is_id h.1
+
+  id_of : (o : Option Id) → IfSome o (λ t. IsId t × (e.id.kind ≡ Relation)) → IfSome o IsId
+  id_of None h = tt
+  id_of (Some t) h = h.0
 
   bans_fit : (b : Bool) → AllByRecursion (Fits rules) (map Ban (cond b (restriction_of e refs) []))
   bans_fit false = tt
   bans_fit true =
       restriction_fits (tagged (codes "restriction") e.tags) (target_as Way (codes "from") e) (option_and_then (located_among refs) (target_as Node (codes "via") e)) (target_as Way (codes "to") e)
-      (tag_fits (codes "restriction") e.tags texts.tags) (target_fits Way (codes "from")) (via_fits (target_as Node (codes "via") e)) (target_fits Way (codes "to"))
+      (tag_fits (codes "restriction") e.tags texts.tags) (target_fits Way (codes "from")) (via_fits (target_as Node (codes "via") e) (id_of (target_as Node (codes "via") e) (target_fits Node (codes "via")))) (target_fits Way (codes "to"))
 
   records_fit : AllByRecursion (Fits rules) (records_with rules e refs)
   records_fit =
