@@ -16,3 +16,4 @@ mod FileRows
 pub mod HourNumbers
 pub mod HeadsByNumbers
 pub mod FileLaws
+pub mod Built

@@ -1,6 +1,6 @@
 //! The fields of a message of good form.
 
-ghost use Rattle.std.specs.Prelude.{◌≡◌, ◌<◌, ◌≤◌, None, Ok, length, IfSome, MatchOption};
+ghost use Rattle.std.specs.Prelude.{◌≡◌, ◌<◌, ◌≤◌, None, Some, Ok, length, IfSome, MatchOption};
 ghost use Rattle.obf_wire.specs.Fields.{IsWindow};
 ghost use Rattle.file_grammar.specs.Messages.{Fields, ends};
 ghost use Rattle.file_grammar.specs.Walks.{IsInside, IsNext, Standing, left_in};
@@ -51,6 +51,7 @@ impl<'a> FieldWalk<'a> {
         ensures same { (self.new.window.bytes ≡ self.old.window.bytes) × (self.new.window.end ≡ self.old.window.end) }
         ensures part { self.new.part ≡ self.old.part }
         ensures window { IsWindow self.new.window }
+        ensures stays { MatchOption result (self.new ≡ self.old) (λ f. self.new.last ≡ Some f.key) }
     {
         match next_field(&mut self.cursor, self.part, self.last) {
             Ok(Some(field)) => {

@@ -1,6 +1,6 @@
 //! The walk that finds the first break of form.
 
-ghost use Rattle.std.specs.Prelude.{◌==◌, if◌then◌else◌, Ok, ◌≡◌, ◌<◌, ◌≤◌, length, None, Some, IfOk, IfErr, MatchOption, IfSome};
+ghost use Rattle.std.specs.Prelude.{◌==◌, if◌then◌else◌, Ok, ◌≡◌, ◌<◌, ◌≤◌, length, None, Some, IfOk, IfErr, OnErr, MatchOption, MatchResult, IfSome};
 ghost use Rattle.std.specs.Option.{option_or};
 ghost use Rattle.obf_wire.specs.Fields.{IsWindow, behind};
 ghost use Rattle.obf_wire.specs.declared.file.FileKind.TheVariants.{BadVersion};
@@ -44,6 +44,7 @@ pub(crate) fn next_field(
     ensures inside { IfOk result (λ found. IfSome found (λ f. IsInside cursor.old f × (cursor.new.place ≡ f.to))) }
     ensures same { (cursor.new.bytes ≡ cursor.old.bytes) × (cursor.new.end ≡ cursor.old.end) }
     ensures window { IsWindow cursor.new }
+    ensures stays { MatchResult result (λ found. cursor.new ≡ behind cursor.old found) (λ _. cursor.new ≡ cursor.old) }
 {
     match read_field(cursor, part, last) {
         Ok(found) => Ok(found),
@@ -61,6 +62,7 @@ fn read_field(
     ensures moved { IfOk result (λ found. cursor.new ≡ behind cursor.old found) }
     ensures same { (cursor.new.bytes ≡ cursor.old.bytes) × (cursor.new.end ≡ cursor.old.end) }
     ensures window { IsWindow cursor.new }
+    ensures stays { OnErr result (cursor.new ≡ cursor.old) }
 {
     let next = next_fields(part, last);
     cursor.next_field(next.keys, next.may_end)

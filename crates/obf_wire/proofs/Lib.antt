@@ -4,3 +4,4 @@ pub mod Places
 pub mod Writing
 pub mod NextField
 pub mod Overlong
+pub mod KnownKeys

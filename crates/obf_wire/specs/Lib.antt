@@ -2,3 +2,4 @@ pub mod Kinds
 pub mod Varint
 pub mod Zigzag
 pub mod Fields
+pub mod KnownKeys

@@ -2,16 +2,22 @@
 
 ghost use Rattle.std.specs.Prelude.{◌≡◌};
 
+use thiserror::Error;
+
 /// What is wrong with the form of a message at a place.
-#[derive(Clone, Copy, Debug, PartialEq, Eq, PartialOrd, Ord)]
+#[derive(Clone, Copy, Debug, PartialEq, Eq, PartialOrd, Ord, Error)]
 pub enum WireKind {
     /// The message ends too early.
+    #[error("Short")]
     Short = 1,
     /// A number is spelled longer than needed, or has more than 64 bits.
+    #[error("LongVarint")]
     LongVarint = 2,
     /// A field stands where it may not come.
+    #[error("BadKey")]
     BadKey = 3,
     /// A payload is longer than what is left of the message.
+    #[error("OverEnd")]
     OverEnd = 4,
 }
 
@@ -37,7 +43,8 @@ impl WireKind {
 }
 
 /// The first break of form, with the offset of the byte at which it is told.
-#[derive(Clone, Copy, Debug, PartialEq, Eq, PartialOrd, Ord)]
+#[derive(Clone, Copy, Debug, PartialEq, Eq, PartialOrd, Ord, Error)]
+#[error("{kind} at {at}")]
 pub struct WireBreak {
     pub at: usize,
     pub kind: WireKind,

@@ -5,6 +5,7 @@ ghost use Rattle.std.specs.Prelude.{◌≡◌, Ok};
 use crate::breaks::{WireBreak, WireKind};
 use owned_data::NoMemory;
 use std::fmt;
+use thiserror::Error;
 
 /// A rule of the file that fails at a place, in the order of the kinds' numbers.
 #[derive(Clone, Copy, Debug, PartialEq, Eq, PartialOrd, Ord)]
@@ -92,7 +93,8 @@ impl From<WireKind> for FileKind {
 }
 
 /// The first break of a file, with the offset of the byte at which it is told.
-#[derive(Clone, Copy, Debug, PartialEq, Eq, PartialOrd, Ord)]
+#[derive(Clone, Copy, Debug, PartialEq, Eq, PartialOrd, Ord, Error)]
+#[error("{kind} at {at}")]
 pub struct FileBreak {
     pub at: usize,
     pub kind: FileKind,
@@ -113,11 +115,13 @@ impl From<WireBreak> for FileBreak {
 }
 
 /// Why a reader of files gives no answer.
-#[derive(Clone, Copy, Debug, Drop, PartialEq, Eq)]
+#[derive(Clone, Copy, Debug, Drop, PartialEq, Eq, Error)]
 pub enum FileError {
     /// Memory was refused.
+    #[error("no memory")]
     NoMemory,
     /// The bytes are no file: the first break.
+    #[error("{0}")]
     Broken(FileBreak),
 }
 

@@ -7,20 +7,24 @@
 //!
 //! The layer above may rely on this: `read_varint` and `Cursor::next_field` answer exactly what stands at their
 //! place, or the first break in the stated order, and a cursor stands still at a break. `Out` appends exactly the
-//! spelling, or nothing where memory is refused. What was written is read again, whatever follows it.
+//! spelling, or nothing where memory is refused. What was written is read again, whatever follows it. `expected` reads a
+//! field of a known key in a straight line, and what it reads is what the cursor would read.
 #![tactic(auto)]
 
 mod breaks;
 mod cursor;
+mod fast;
 mod field;
 mod file;
 mod laws;
 mod out;
 mod signed;
 mod varint;
+mod window;
 
 pub use breaks::{WireBreak, WireKind};
 pub use cursor::Cursor;
+pub use fast::{expected, expected_wide, number};
 pub use field::Field;
 pub use file::{FileBreak, FileError, FileKind, Marks};
 pub use laws::{
@@ -30,3 +34,4 @@ pub use laws::{
 pub use out::Out;
 pub use signed::{unzigzag, zigzag};
 pub use varint::{LONGEST_VARINT, read_varint};
+pub use window::Window;
