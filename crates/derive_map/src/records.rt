@@ -1,14 +1,14 @@
 //! Map records.
 
-ghost use Rattle.std.specs.Prelude.{◌≡◌, ◌+◌, [], ◌∷◌, IfOk, IsTrue, IsUtf8, MatchOption};
-ghost use Rattle.live_model.specs.Records.{is_map, map_records, map_records_of};
+ghost use Rattle.std.specs.Prelude.{◌≡◌, ◌+◌, IfOk, IsTrue, IsUtf8};
+ghost use Rattle.live_model.specs.Records.{map_records, map_records_of};
 ghost use Rattle.object_geometry.specs.Referred.{referred_in};
-ghost use Rattle.derive_map.specs.Drawings.{map_rules, drawing, drawings};
+ghost use Rattle.derive_map.specs.Drawings.{drawing, drawings};
 ghost use Rattle.derive_map.specs.MapRecords.{AreNamed};
 
 use entity_store::Look;
-use live_model::{Class, Entity, List, MapRec, Mem, ObjId, Point, Rule, Steps, Text};
-use object_geometry::{Matches, name, points};
+use live_model::{Entity, List, MapRec, Mem, ObjId, Point, Rule, Steps, Text};
+use object_geometry::{Matches, Wanted, name, points};
 use std::alloc::Global;
 use std::sync::ledger::Ledger;
 use tag_rules::Rules;
@@ -49,7 +49,7 @@ pub(crate) fn records_of(
     ensures records { IfOk result (λ records. records.items ≡ map_records rules.now entity.now (referred_in look.now entity.now)) }
     ensures named { IfOk result (λ records. AreNamed records.items) }
 {
-    let Some(_) = next_drawn(&mut Matches::new(rules, entity)) else {
+    let Some(_) = Matches::new(rules, entity).next_of(Wanted::Map) else {
         return Ok(Vec::new(alloc));
     };
     let points = points(alloc, look, entity)?;
@@ -66,29 +66,11 @@ fn drawings(alloc: Global, rules: &Rules, entity: &Entity, points: &[Point]) -> 
 {
     let mut matches = Matches::new(rules, entity);
     let mut records = Vec::new(alloc);
-    while let Some((index, rule)) = next_drawn(&mut matches) {
+    while let Some((index, rule)) = matches.next_of(Wanted::Map) {
         let record = drawing(alloc, entity, points, index, rule)?;
         records.push(record)?;
     }
     Ok(records)
-}
-
-/// The next rule of the map, with its place in the table.
-fn next_drawn<'a>(matches: &mut Matches<'a>) -> Option<(u32, &'a Rule)>
-    ensures { MatchOption result (map_rules matches.old ≡ []) (λ found. map_rules matches.old ≡ (found.0, found.1.now) ∷ map_rules matches.new) }
-{
-    while let Some((index, rule)) = matches.next_rule() {
-        if is_map(&rule.class) {
-            return Some((index, rule));
-        }
-    }
-    None
-}
-
-fn is_map(class: &Class) -> bool
-    ensures { result ≡ is_map class.now }
-{
-    matches!(class, Class::Map)
 }
 
 /// An object with these points as the rule at this place draws it.

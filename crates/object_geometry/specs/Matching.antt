@@ -6,8 +6,12 @@ use Rattle.live_model.specs.declared.objects.Tag.{Tag}
 use Rattle.live_model.specs.declared.objects.Entity.{Entity}
 use Rattle.live_model.specs.declared.shapes.Shape.{Shape}
 use Rattle.live_model.specs.declared.rules.Rule.{Rule}
+use Rattle.live_model.specs.declared.classes.Class.{Class}
 use Rattle.live_model.specs.Rules.{matches}
 use Rattle.live_model.specs.Geometry.{kind_shapes}
+use Rattle.live_model.specs.Records.{is_map, is_road, is_place}
+use Rattle.object_geometry.specs.declared.matches.Wanted.{Wanted}
+use Rattle.object_geometry.specs.declared.matches.Wanted.TheVariants.{Map, Road, Place}
 
 -- a rule with its place matches one of the shapes
 abbrev pub matches_any : List Shape → List Tag → ℕ × Rule → Bool
@@ -26,3 +30,13 @@ first_from rules shapes tags from = option_map (λ r. r.0) (find (matches_any sh
 -- the rules of a table that match the object, if it has points: each with its place, in the order of the table
 abbrev pub rules_for : List Rule → Entity → List (ℕ × Rule)
 rules_for rules e = filter (matches_any (kind_shapes e.id.kind e.refs) e.tags) (enumerate_from 0 rules)
+
+-- the class is the one that is wanted
+abbrev pub wants : Wanted → Class → Bool
+wants Map = is_map
+wants Road = is_road
+wants Place = is_place
+
+-- the rules of a class among these
+abbrev pub of_class : Wanted → List (ℕ × Rule) → List (ℕ × Rule)
+of_class wanted rules = filter (λ r. wants wanted r.1.class) rules

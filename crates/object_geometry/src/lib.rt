@@ -13,8 +13,8 @@ mod names;
 mod nodes;
 mod outlines;
 
-pub use matches::Matches;
+pub use matches::{Matches, Wanted};
 pub use middles::one_point;
-pub use names::{name, tagged};
-pub use nodes::{located_nodes, points};
+pub use names::{name, tag_or_empty, tagged};
+pub use nodes::{has_points, located_nodes, points};
 pub use outlines::{is_closed, shapes};

@@ -1,12 +1,32 @@
 //! The rules that match an object.
 
 ghost use Rattle.std.specs.Prelude.{◌≡◌, ◌<◌, [], ◌∷◌, length, IfSome, MatchOption};
-ghost use Rattle.object_geometry.specs.Matching.{lesser, first_from, rules_for};
+ghost use Rattle.object_geometry.specs.Matching.{lesser, first_from, rules_for, wants, of_class};
 
 use crate::outlines::shapes;
-use live_model::{Entity, List, Rule, Shape, Tag};
+use live_model::{Class, Entity, List, Rule, Shape, Tag};
 use std::marker::Model;
 use tag_rules::Rules;
+
+/// The classes of rules that draw objects, make roads of them, or name places.
+#[derive(Clone, Copy, PartialEq, Eq, Debug)]
+pub enum Wanted {
+    Map,
+    Road,
+    Place,
+}
+
+impl Wanted {
+    /// Whether a rule's class is this one.
+    fn admits(self, class: &Class) -> bool
+        ensures { result ≡ wants self class.now }
+    {
+        matches!(
+            (self, class),
+            (Wanted::Map, Class::Map) | (Wanted::Road, Class::Road) | (Wanted::Place, Class::Place)
+        )
+    }
+}
 
 /// The rules that match an object, if it has points, in the order of the table; seen as those that are
 /// still to come, each with its place.
@@ -53,6 +73,18 @@ impl<'a> Matches<'a> {
         let rule = &rules[index as usize];
         self.from = index + 1;
         Some((index, rule))
+    }
+
+    /// The next rule of a class, with its index in the table. `None` exactly where none is to come.
+    pub fn next_of(&mut self, wanted: Wanted) -> Option<(u32, &'a Rule)>
+        ensures { MatchOption result (of_class wanted self.old ≡ []) (λ found. of_class wanted self.old ≡ (found.0, found.1.now) ∷ of_class wanted self.new) }
+    {
+        while let Some((index, rule)) = self.next_rule() {
+            if wanted.admits(&rule.class) {
+                return Some((index, rule));
+            }
+        }
+        None
     }
 }
 

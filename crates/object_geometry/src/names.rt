@@ -2,7 +2,7 @@
 
 ghost use Rattle.std.specs.Prelude.{◌≡◌, bytes_eq};
 ghost use Rattle.std.specs.Option.{option_copied};
-ghost use Rattle.live_model.specs.Records.{tagged, name_of};
+ghost use Rattle.live_model.specs.Records.{tagged, tag_or_empty, name_of};
 
 use live_model::{Entity, Text};
 
@@ -20,14 +20,21 @@ pub fn tagged<'a>(entity: &'a Entity, key: &str) -> Option<&'a Text>
     None
 }
 
+/// The value of the tag with this key, or the empty text.
+pub fn tag_or_empty<'a>(entity: &'a Entity, key: &str) -> &'a str
+    ensures { result.now ≡ tag_or_empty key.now entity.now.tags }
+{
+    match tagged(entity, key) {
+        Some(value) => value.as_str(),
+        None => "",
+    }
+}
+
 /// The value of the tag `name`, or the empty text.
 pub fn name(entity: &Entity) -> &str
     ensures { result.now ≡ name_of entity.now }
 {
-    match tagged(entity, "name") {
-        Some(value) => value.as_str(),
-        None => "",
-    }
+    tag_or_empty(entity, "name")
 }
 
 fn is_text(text: &Text, other: &str) -> bool

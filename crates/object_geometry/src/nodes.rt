@@ -1,9 +1,9 @@
 //! The nodes and the points of an object.
 
-ghost use Rattle.std.specs.Prelude.{◌≡◌, ◌++◌, [], map, IfOk, option_to_list};
+ghost use Rattle.std.specs.Prelude.{◌≡◌, ◌≢◌, ◌↔◌, ◌++◌, [], map, IfOk, IsTrue, option_to_list};
 ghost use Rattle.std.specs.Option.{option_copied, option_map, option_and_then};
 ghost use Rattle.live_model.specs.Closures.{node_id, looked_up};
-ghost use Rattle.live_model.specs.Geometry.{located, located_nodes, node_at, way_points, points_of};
+ghost use Rattle.live_model.specs.Geometry.{located, located_nodes, node_at, kind_points, way_points, points_of};
 ghost use Rattle.object_geometry.specs.Referred.{referred_in};
 
 use entity_store::Look;
@@ -33,6 +33,17 @@ pub fn points(alloc: Global, look: &Look<'_>, entity: &Entity) -> Mem<List<Point
             points_of_way(alloc, nodes.as_slice())
         }
         Kind::Relation => Ok(List::new(alloc)),
+    }
+}
+
+/// Whether an object whose located nodes are these has points. It makes no look-up.
+pub fn has_points(entity: &Entity, nodes: &[RoadNode]) -> bool
+    ensures { IsTrue result ↔ (kind_points entity.now.id.kind entity.now.place nodes.now ≢ []) }
+{
+    match entity.id.kind() {
+        Kind::Node => entity.place.is_some(),
+        Kind::Way => nodes.len() >= 2,
+        Kind::Relation => false,
     }
 }
 
