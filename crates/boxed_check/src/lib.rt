@@ -1,0 +1,2 @@
+//! Sections of boxed records, checked in one pass and read.
+#![tactic(auto)]
