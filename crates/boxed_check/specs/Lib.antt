@@ -1,1 +1,6 @@
 pub mod Listed
+pub mod Keeping
+pub mod Points
+pub mod Blocks
+pub mod Nodes
+pub mod Sections

@@ -5,3 +5,4 @@ pub mod NodeShape
 pub mod NodeWalk
 pub mod RecordWalk
 pub mod BlockWalk
+pub mod LevelsBelow

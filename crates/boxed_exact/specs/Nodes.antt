@@ -1,5 +1,5 @@
 -- What was asked of the nodes of a tree.
-use Rattle.std.specs.Prelude.{◌≡◌, ℕ, List, [], ◌∷◌, ◌++◌, length, map, filter_map, flat_map, Option, Some}
+use Rattle.std.specs.Prelude.{◌≡◌, ℕ, List, [], ◌∷◌, ◌++◌, length, map, filter_map, flat_map, true, Option, Some}
 use Rattle.std.specs.List.{list_all}
 use Rattle.std.specs.Option.{option_map}
 use Rattle.obf_wire.specs.declared.file.FileBreak.{FileBreak}
@@ -10,7 +10,8 @@ use Rattle.file_grammar.specs.BoxRules.{holds_box, node_facts}
 use Rattle.file_grammar.specs.Facts.{earlier, first_failing}
 use Rattle.file_grammar.specs.Messages.{Fields, ends, has_number, has_message}
 use Rattle.file_grammar.specs.Sections.{BoxNode, Leaf, leaves_in, messages_in, messages_within, node_in, nodes_in}
-use Rattle.file_grammar.specs.Tables.{content_of}
+use Rattle.obf_wire.specs.Fields.{is_among}
+use Rattle.file_grammar.specs.Tables.{content_of, may_end, next_keys}
 use Rattle.boxed_exact.specs.declared.edges.Edges.{Edges}
 use Rattle.boxed_exact.specs.declared.nodes.BelowSeen.{BelowSeen}
 use Rattle.boxed_exact.specs.declared.nodes.LeafSeen.{LeafSeen}
@@ -30,6 +31,13 @@ levels_of part = 0
 -- where a node may have others below it, they are of this part
 abbrev pub IsPartBelow : Part → Option Part → Type 0
 IsPartBelow part below = (sub : Part) → content_of part 54 ≡ Some (Message sub) → below ≡ Some sub
+
+-- below nodes of this part, nodes of that part may stand
+pub record IsBelowPart (part sub : Part) : Type 0 where
+  pub first : is_among (next_keys part (Some 32)) 54 ≡ true
+  pub again : is_among (next_keys part (Some 54)) 54 ≡ true
+  pub content : content_of part 54 ≡ Some (Message sub)
+  pub end : may_end part (Some 54) ≡ true
 
 -- messages behind the key of nodes
 abbrev pub AreNodes : Fields → Type 0

@@ -26,7 +26,7 @@ pub use class::{CheckClass, Checked, Seen};
 pub use edges::Edges;
 pub use fields::{Number, Payload, next_number, next_payload};
 pub use marks::{has_mark, is_marked};
-pub use nodes::{LeafSeen, part_below};
+pub use nodes::{LeafSeen, check_nodes, part_below};
 pub use ordinals::{is_node, is_ordinal, is_way};
 pub use points::{PointsSeen, Step, next_step, see_points};
 pub use section::check_exactly;

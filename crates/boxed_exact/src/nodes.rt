@@ -10,7 +10,7 @@ ghost use Rattle.file_grammar.specs.Readings.{message_at};
 ghost use Rattle.file_grammar.specs.Walks.{left_in};
 ghost use Rattle.boxed_exact.specs.Boxes.{box_of};
 ghost use Rattle.boxed_exact.specs.declared.edges.Edges.{Edges as EdgesOf};
-ghost use Rattle.boxed_exact.specs.Nodes.{IsBelowChecked, IsBelow, IsPartBelow, IsTreePart, AreNodesChecked, levels_of};
+ghost use Rattle.boxed_exact.specs.Nodes.{IsBelowChecked, IsBelow, IsBelowPart, IsPartBelow, IsTreePart, AreNodesChecked, levels_of};
 
 use crate::edges::Edges;
 use crate::fields::{Number, next_number};
@@ -39,7 +39,7 @@ pub struct BelowSeen {
 /// Asks what has to hold of a node and those below it, and adds the leaves in their order. Answers the box of
 /// the node; a tree may have none.
 #[cycle(nodes)]
-pub(crate) fn check_nodes(
+pub fn check_nodes(
     part: Part,
     bytes: &[u8],
     from: usize,
@@ -117,9 +117,11 @@ fn check_below(
 }
 
 /// The part that nodes below a node are; `None` where no level is left.
+#[tactic(auto, using(crate::proofs::LevelsBelow::below_tree, crate::proofs::LevelsBelow::below_node))]
 pub fn part_below(part: Part) -> Option<Part>
     requires { IsTreePart part }
     ensures below { IsPartBelow part result }
+    ensures part { IfSome result (IsBelowPart part) }
     ensures tree { IfSome result (λ below. IsTreePart below × (levels_of below < levels_of part)) }
 {
     match part {

@@ -1,0 +1,39 @@
+//! A section of a class, checked.
+
+ghost use Rattle.std.specs.Prelude.{◌≡◌, ◌≤◌, None, length, IfErr, IfOk};
+ghost use Rattle.boxed_exact.specs.Breaks.{Breaks, section_break};
+ghost use Rattle.boxed_exact.specs.Sides.{AreRising, beside};
+ghost use Rattle.boxed_check.specs.Keeping.{IsKept};
+
+use crate::kept::Kept;
+use crate::section::see_section;
+use crate::survey::survey;
+use boxed_exact::{Around, CheckClass, check_exactly};
+use obf_wire::FileError;
+use std::alloc::Global;
+
+/// Checks a section of a class, and says what there is of it: in one pass where it is good. `Broken` with the first break of form,
+/// or else with the first rule that fails, exactly where there is one, unless memory was refused before.
+#[tactic(auto, using(crate::proofs::Good::kept_good))]
+pub fn check<C: CheckClass>(
+    alloc: Global,
+    bytes: &[u8],
+    from: usize,
+    to: usize,
+    around: &Around<'_>,
+) -> Result<Kept, FileError>
+    requires ordered { from ≤ to }
+    requires within { to ≤ length bytes.now }
+    requires marks { AreRising around.now.marks }
+    ensures good { IfOk result (λ _. section_break C.class C.boxing (beside around.now) (record { bytes = bytes.now; place = from; end = to }) ≡ None) }
+    ensures kept { IfOk result (IsKept C.class C.boxing (beside around.now) (record { bytes = bytes.now; place = from; end = to })) }
+    ensures broken { IfErr result (λ error. Breaks error (section_break C.class C.boxing (beside around.now) (record { bytes = bytes.now; place = from; end = to }))) }
+{
+    let found = see_section::<C>(alloc, bytes, from, to, around)?;
+    if let Some(kept) = found {
+        return Ok(kept);
+    }
+    check_exactly::<C>(alloc, bytes, from, to, around)?;
+    let kept = survey::<C>(alloc, bytes, from, to)?;
+    Ok(kept)
+}

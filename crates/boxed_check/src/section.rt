@@ -1,0 +1,128 @@
+//! A whole section.
+
+ghost use Rattle.std.specs.Prelude.{◌≡◌, ◌≤◌, length, true, IfOk, IfSome, MatchOption, [], ◌∷◌};
+ghost use Rattle.boxed_exact.specs.Sides.{AreRising};
+ghost use Rattle.boxed_exact.specs.Sides.{beside};
+ghost use Rattle.boxed_check.specs.Sections.{AreBlocksSeen, IsGoodTree};
+ghost use Rattle.boxed_check.specs.Keeping.{IsKept};
+
+use crate::blocks::see_block;
+use crate::kept::Kept;
+use crate::nodes::see_node;
+use boxed_exact::{Around, CheckClass, LeafSeen, Payload};
+use file_grammar::Part;
+use obf_wire::{Field, expected_wide};
+use owned_data::{Mem, NoMemory};
+use std::alloc::Global;
+
+/// The keys of the tree and of a block.
+const TREE: u8 = 14;
+const BLOCK: u8 = 22;
+
+/// More records than these are counted by no file.
+const FEW: usize = 1_000_000_000_000_000;
+
+/// Reads a section in one pass. `Some` only where its form is good and all that has to hold of it holds.
+pub(crate) fn see_section<C: CheckClass>(
+    alloc: Global,
+    bytes: &[u8],
+    from: usize,
+    to: usize,
+    around: &Around<'_>,
+) -> Mem<Option<Kept>>
+    requires ordered { from ≤ to }
+    requires within { to ≤ length bytes.now }
+    requires marks { AreRising around.now.marks }
+    ensures { IfOk result (λ found. IfSome found (IsKept C.class C.boxing (beside around.now) (record { bytes = bytes.now; place = from; end = to }))) }
+{
+    let Some(tree) = expected_wide(bytes, from, to, TREE) else {
+        return Ok(None);
+    };
+    let mut leaves = Vec::new(alloc);
+    let good = see_tree(bytes, tree, &mut leaves)?;
+    if !good {
+        return Ok(None);
+    }
+    let mut blocks = Vec::new(alloc);
+    let found = blocks_in::<C>(bytes, tree.to, to, leaves.as_slice(), around, &mut blocks)?;
+    let Some(records) = found else {
+        return Ok(None);
+    };
+    Ok(Some(Kept {
+        leaves,
+        blocks,
+        records,
+    }))
+}
+
+/// The tree in a field, which may be empty.
+fn see_tree(bytes: &[u8], field: Field, leaves: &mut Vec<LeafSeen>) -> Mem<bool>
+    requires ordered { field.from ≤ field.to }
+    requires within { field.to ≤ length bytes.now }
+    ensures { IfOk result (λ good. good ≡ true → IsGoodTree (record { bytes = bytes.now; place = field.from; end = field.to }) leaves.old.items leaves.new.items) }
+{
+    if field.from == field.to {
+        return Ok(true);
+    }
+    let found = see_node(Part::Tree, bytes, field.from, field.to, leaves)?;
+    Ok(found.is_some())
+}
+
+/// How many records the blocks have that stand there, each with the leaf that names it; adds where they stand.
+fn blocks_in<C: CheckClass>(
+    bytes: &[u8],
+    from: usize,
+    to: usize,
+    leaves: &[LeafSeen],
+    around: &Around<'_>,
+    blocks: &mut Vec<Payload>,
+) -> Mem<Option<usize>>
+    requires ordered { from ≤ to }
+    requires within { to ≤ length bytes.now }
+    requires marks { AreRising around.now.marks }
+    ensures { IfOk result (λ found. IfSome found (AreBlocksSeen C.class C.boxing (beside around.now) (record { bytes = bytes.now; place = from; end = to }) leaves.now blocks.old.items blocks.new.items)) }
+{
+    let mut at = from;
+    let mut rest = leaves;
+    let mut count: usize = 0;
+    while let Some((leaf, after)) = parted(rest) {
+        let Some(field) = expected_wide(bytes, at, to, BLOCK) else {
+            return Ok(None);
+        };
+        if leaf.place.value != (at - from) as u64 || count > FEW {
+            return Ok(None);
+        }
+        let Some(records) = see_block::<C>(bytes, field, &leaf.edges, around) else {
+            return Ok(None);
+        };
+        blocks.push(span_of(field))?;
+        rest = after;
+        at = field.to;
+        count += records;
+    }
+    if at != to {
+        return Ok(None);
+    }
+    Ok(Some(count))
+}
+
+/// Where the payload of a field stands.
+pub(crate) fn span_of(field: Field) -> Payload
+    ensures { result ≡ record { at = field.at; from = field.from; to = field.to } }
+{
+    Payload {
+        at: field.at,
+        from: field.from,
+        to: field.to,
+    }
+}
+
+/// The first leaf, and those behind it.
+fn parted(leaves: &[LeafSeen]) -> Option<(LeafSeen, &[LeafSeen])>
+    ensures { MatchOption result (leaves.now ≡ []) (λ p. leaves.now ≡ p.0 ∷ p.1.now) }
+{
+    match leaves {
+        [] => None,
+        [leaf, after @ ..] => Some((*leaf, after)),
+    }
+}
