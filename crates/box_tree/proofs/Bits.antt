@@ -9,7 +9,7 @@ use Rattle.std.proofs.lemmas.Nat.Bits.{bit_at_and, bit_at_or, bit_at_cat_low, bi
 use Rattle.std.proofs.lemmas.Bool.{cases_lt}
 use Rattle.std.proofs.lemmas.Bool.Decides.{nat_tests}
 use Rattle.live_model.specs.declared.points.Point.{Point}
-use Rattle.box_tree.specs.Packing.{spread, code}
+use Rattle.box_tree.specs.Packing.{interleave, code}
 
 -- the groups of w bits of n stand in x with gaps of w bits between them
 pub record AreParted (w n x : ℕ) : Type 0 where
@@ -197,51 +197,51 @@ whole n fits = record {
   gap = λ q r i e lt small. bit_at_above n 32 i fits (omega arith);
 }
 
--- the first bits, spread
-spread_to : ℕ → ℕ → ℕ
-spread_to k n = sum (map (λ j. bit_at n j * 2 ^ (2 * j)) (range_with_len 0 k))
+-- the first bits, interleaved
+interleaved_to : ℕ → ℕ → ℕ
+interleaved_to k n = sum (map (λ j. bit_at n j * 2 ^ (2 * j)) (range_with_len 0 k))
 
-spread_more : (k n : ℕ) → spread_to (k + 1) n ≡ bit_at n k * 2 ^ (2 * k) + spread_to k n
-unfolding spread_to
-spread_more k n = sum_by-map-range_with_len_more (λ x. x) (λ j. bit_at n j * 2 ^ (2 * j)) 0 k k (omega arith) ∙ omega arith
+interleave_more : (k n : ℕ) → interleaved_to (k + 1) n ≡ bit_at n k * 2 ^ (2 * k) + interleaved_to k n
+unfolding interleaved_to
+interleave_more k n = sum_by-map-range_with_len_more (λ x. x) (λ j. bit_at n j * 2 ^ (2 * j)) 0 k k (omega arith) ∙ omega arith
 
 four_times : (k : ℕ) → 2 ^ (2 * (k + 1)) ≡ 4 * 2 ^ (2 * k)
 four_times k =
     let e : 2 * (k + 1) ≡ suc (suc (2 * k)) = omega arith in
     ap (λ (j : ℕ). 2 ^ j) e ∙ omega (arith, pow-suc 2 (2 * k), pow-suc 2 (suc (2 * k)))
 
-spread_small : (k n : ℕ) → spread_to k n < 2 ^ (2 * k)
-unfolding spread_to
-spread_small zero n = omega arith
-spread_small (suc k) n =
+interleave_small : (k n : ℕ) → interleaved_to k n < 2 ^ (2 * k)
+unfolding interleaved_to
+interleave_small zero n = omega arith
+interleave_small (suc k) n =
     let e : suc k ≡ k + 1 = omega arith in
-    let more = spread_more k n in
+    let more = interleave_more k n in
     let bit = bit_at-lt n k in
-    let small = spread_small k n in
+    let small = interleave_small k n in
     let wide = four_times k in
-    subst (λ (j : ℕ). spread_to j n < 2 ^ (2 * j)) (sym e) (bounded (bit_at n k) (2 ^ (2 * k)) bit more small wide)
+    subst (λ (j : ℕ). interleaved_to j n < 2 ^ (2 * j)) (sym e) (bounded (bit_at n k) (2 ^ (2 * k)) bit more small wide)
   where
     bounded : (b p : ℕ) {s t q : ℕ} → b < 2 → s ≡ b * p + t → t < p → q ≡ 4 * p → s < q
     bounded zero p bit more small wide = omega arith
     bounded (suc zero) p bit more small wide = omega arith
     bounded (suc (suc b)) p bit more small wide = absurd (omega arith)
 
--- bit 2j of what is spread is bit j
-spread_even : (k n j : ℕ) → j < k → bit_at (spread_to k n) (2 * j) ≡ bit_at n j
-spread_even zero n j lt = absurd (omega arith)
-spread_even (suc k) n j lt =
+-- bit 2j of what is interleaved is bit j
+interleave_even : (k n j : ℕ) → j < k → bit_at (interleaved_to k n) (2 * j) ≡ bit_at n j
+interleave_even zero n j lt = absurd (omega arith)
+interleave_even (suc k) n j lt =
     let e : suc k ≡ k + 1 = omega arith in
-    let start = ap (λ (m : ℕ). bit_at m (2 * j)) (ap (λ (m : ℕ). spread_to m n) e ∙ spread_more k n) in
-    let small = spread_small k n in
+    let start = ap (λ (m : ℕ). bit_at m (2 * j)) (ap (λ (m : ℕ). interleaved_to m n) e ∙ interleave_more k n) in
+    let small = interleave_small k n in
     elim (cases_lt j k) [
-      | inl less ↦ start ∙ bit_at_cat_low (bit_at n k) (2 * k) (spread_to k n) (2 * j) (omega arith) ∙ spread_even k n j less
+      | inl less ↦ start ∙ bit_at_cat_low (bit_at n k) (2 * k) (interleaved_to k n) (2 * j) (omega arith) ∙ interleave_even k n j less
       | inr more ↦
           let same : j ≡ k = omega arith in
           let none : 2 * j - 2 * k ≡ 0 = omega arith in
           let bit = bit_at-lt n k in
           let one : bit_at n k % 2 ≡ bit_at n k = omega arith in
           start
-          ∙ bit_at_cat_high (bit_at n k) (2 * k) (spread_to k n) (2 * j) small (omega arith)
+          ∙ bit_at_cat_high (bit_at n k) (2 * k) (interleaved_to k n) (2 * j) small (omega arith)
           ∙ ap (λ (m : ℕ). bit_at (bit_at n k) m) none
           ∙ bit_at_lowest (bit_at n k)
           ∙ one
@@ -249,65 +249,65 @@ spread_even (suc k) n j lt =
     ]
 
 -- and the bits between are 0
-spread_odd : (k n j : ℕ) → bit_at (spread_to k n) (2 * j + 1) ≡ 0
-unfolding spread_to
-spread_odd zero n j = bit_at-zero (2 * j + 1)
-spread_odd (suc k) n j =
+interleave_odd : (k n j : ℕ) → bit_at (interleaved_to k n) (2 * j + 1) ≡ 0
+unfolding interleaved_to
+interleave_odd zero n j = bit_at-zero (2 * j + 1)
+interleave_odd (suc k) n j =
     let e : suc k ≡ k + 1 = omega arith in
-    let start = ap (λ (m : ℕ). bit_at m (2 * j + 1)) (ap (λ (m : ℕ). spread_to m n) e ∙ spread_more k n) in
-    let small = spread_small k n in
+    let start = ap (λ (m : ℕ). bit_at m (2 * j + 1)) (ap (λ (m : ℕ). interleaved_to m n) e ∙ interleave_more k n) in
+    let small = interleave_small k n in
     elim (cases_lt j k) [
-      | inl less ↦ start ∙ bit_at_cat_low (bit_at n k) (2 * k) (spread_to k n) (2 * j + 1) (omega arith) ∙ spread_odd k n j
+      | inl less ↦ start ∙ bit_at_cat_low (bit_at n k) (2 * k) (interleaved_to k n) (2 * j + 1) (omega arith) ∙ interleave_odd k n j
       | inr more ↦
           let bit : bit_at n k < 2 ^ 1 = bit_at-lt n k in
           start
-          ∙ bit_at_cat_high (bit_at n k) (2 * k) (spread_to k n) (2 * j + 1) small (omega arith)
+          ∙ bit_at_cat_high (bit_at n k) (2 * k) (interleaved_to k n) (2 * j + 1) small (omega arith)
           ∙ bit_at_above (bit_at n k) 1 (2 * j + 1 - 2 * k) bit (omega arith)
     ]
 
--- what is parted to single bits is what is spread
-pub spread_parted : (n x : ℕ) → n < 2 ^ 32 → x < 2 ^ 64 → AreParted 1 n x → x ≡ spread n
-unfolding spread spread_to
-spread_parted n x fits small parts =
-    same_from_bits_below 64 x (spread_to 32 n) small (spread_small 32 n)
+-- what is parted to single bits is what is interleavedd
+pub interleave_parted : (n x : ℕ) → n < 2 ^ 32 → x < 2 ^ 64 → AreParted 1 n x → x ≡ interleave n
+unfolding interleave interleaved_to
+interleave_parted n x fits small parts =
+    same_from_bits_below 64 x (interleaved_to 32 n) small (interleave_small 32 n)
     (λ i lt. elim (halved i) [
       | inl half ↦
           let is = parts.group half.0 0 i (omega (arith, half.1)) (omega arith) lt in
           let same : 1 * half.0 + 0 ≡ half.0 = omega arith in
-          is ∙ ap (λ (k : ℕ). bit_at n k) same ∙ sym (spread_even 32 n half.0 (omega (arith, half.1))) ∙ ap (λ (k : ℕ). bit_at (spread_to 32 n) k) (sym half.1)
+          is ∙ ap (λ (k : ℕ). bit_at n k) same ∙ sym (interleave_even 32 n half.0 (omega (arith, half.1))) ∙ ap (λ (k : ℕ). bit_at (interleaved_to 32 n) k) (sym half.1)
       | inr half ↦
           let is = parts.gap half.0 0 i (omega (arith, half.1)) (omega arith) lt in
-          is ∙ sym (spread_odd 32 n half.0) ∙ ap (λ (k : ℕ). bit_at (spread_to 32 n) k) (sym half.1)
+          is ∙ sym (interleave_odd 32 n half.0) ∙ ap (λ (k : ℕ). bit_at (interleaved_to 32 n) k) (sym half.1)
     ])
 
-pub spread_lines : (n : ℕ) (a b c d e : ℕ) → n < 2 ^ 32
+pub interleave_lines : (n : ℕ) (a b c d e : ℕ) → n < 2 ^ 32
     → a ≡ bit_and (bit_or n (n * 2 ^ 16 % 2 ^ 64)) 0x0000_ffff_0000_ffff
     → b ≡ bit_and (bit_or a (a * 2 ^ 8 % 2 ^ 64)) 0x00ff_00ff_00ff_00ff
     → c ≡ bit_and (bit_or b (b * 2 ^ 4 % 2 ^ 64)) 0x0f0f_0f0f_0f0f_0f0f
     → d ≡ bit_and (bit_or c (c * 2 ^ 2 % 2 ^ 64)) 0x3333_3333_3333_3333
     → e ≡ bit_and (bit_or d (d * 2 ^ 1 % 2 ^ 64)) 0x5555_5555_5555_5555
-    → e ≡ spread n
-spread_lines n a b c d e fits ea eb ec ed ee =
+    → e ≡ interleave n
+interleave_lines n a b c d e fits ea eb ec ed ee =
     let small : e < 2 ^ 64 = omega (arith, ee, and_le_r (bit_or d (d * 2 ^ 1 % 2 ^ 64)) 0x5555_5555_5555_5555) in
     let pa : AreParted 16 n a = subst (AreParted 16 n) (sym ea) (parted_more 16 n n 0x0000_ffff_0000_ffff (omega arith) (whole n fits) mask_16) in
     let pb : AreParted 8 n b = subst (AreParted 8 n) (sym eb) (parted_more 8 n a 0x00ff_00ff_00ff_00ff (omega arith) pa mask_8) in
     let pc : AreParted 4 n c = subst (AreParted 4 n) (sym ec) (parted_more 4 n b 0x0f0f_0f0f_0f0f_0f0f (omega arith) pb mask_4) in
     let pd : AreParted 2 n d = subst (AreParted 2 n) (sym ed) (parted_more 2 n c 0x3333_3333_3333_3333 (omega arith) pc mask_2) in
     let pe : AreParted 1 n e = subst (AreParted 1 n) (sym ee) (parted_more 1 n d 0x5555_5555_5555_5555 (omega arith) pd mask_1) in
-    spread_parted n e fits small pe
+    interleave_parted n e fits small pe
 
 -- ---- codes
 
 -- the code of the first bits
 code_to : ℕ → ℕ → ℕ → ℕ
-code_to k x y = spread_to k x + 2 * spread_to k y
+code_to k x y = interleaved_to k x + 2 * interleaved_to k y
 
 code_more : (k x y : ℕ) → code_to (k + 1) x y ≡ (bit_at x k + 2 * bit_at y k) * 2 ^ (2 * k) + code_to k x y
 unfolding code_to
-code_more k x y = omega (arith, spread_more k x, spread_more k y)
+code_more k x y = omega (arith, interleave_more k x, interleave_more k y)
 
 code_small : (k x y : ℕ) → code_to k x y < 2 ^ (2 * k)
-unfolding code_to spread_to
+unfolding code_to interleaved_to
 code_small zero x y = omega arith
 code_small (suc k) x y =
     let e : suc k ≡ k + 1 = omega arith in
@@ -357,13 +357,13 @@ code_odd (suc k) x y j lt =
     ]
 
 pub even_bits : (p : Point) (k : ℕ) → k < 32 → bit_at (code p) (2 * k) ≡ bit_at p.x k
-unfolding code spread spread_to code_to
+unfolding code interleave interleaved_to code_to
 even_bits p k lt = code_even 32 p.x p.y k lt
 
 pub odd_bits : (p : Point) (k : ℕ) → k < 32 → bit_at (code p) (2 * k + 1) ≡ bit_at p.y k
-unfolding code spread spread_to code_to
+unfolding code interleave interleaved_to code_to
 odd_bits p k lt = code_odd 32 p.x p.y k lt
 
 pub all_bits : (p : Point) → code p < 2 ^ 64
-unfolding code spread spread_to code_to
+unfolding code interleave interleaved_to code_to
 all_bits p = code_small 32 p.x p.y

@@ -5,7 +5,8 @@ use Rattle.std.proofs.lemmas.List.FromFn.{get_or-map-range_with_len}
 use Rattle.std.proofs.lemmas.Bool.Decides.{nat_tests}
 use Rattle.live_model.specs.declared.points.Rect.{Rect}
 use Rattle.live_model.specs.Points.{overlaps}
-use Rattle.box_tree.specs.Trees.{Holds, around_both, around, children, node_above, level_above}
+use Rattle.box_tree.specs.Trees.{Holds, around, children, node_above, level_above}
+use Rattle.live_model.specs.Points.{union}
 
 pub holds_self : (a : Rect) → Holds a a
 holds_self a = record { left = omega arith; top = omega arith; right = omega arith; bottom = omega arith }
@@ -18,20 +19,20 @@ holds_on a b c p q = record {
   bottom = omega (arith, p.bottom, q.bottom);
 }
 
-holds_one : (a b : Rect) → Holds (around_both a b) a
+holds_one : (a b : Rect) → Holds (union a b) a
 holds_one a b = record { left = omega arith; top = omega arith; right = omega arith; bottom = omega arith }
 
-holds_other : (a b : Rect) → Holds (around_both a b) b
+holds_other : (a b : Rect) → Holds (union a b) b
 holds_other a b = record { left = omega arith; top = omega arith; right = omega arith; bottom = omega arith }
 
-holds_start : (a : Rect) (xs : List Rect) → Holds (fold around_both a xs) a
+holds_start : (a : Rect) (xs : List Rect) → Holds (fold union a xs) a
 holds_start a [] = holds_self a
-holds_start a (x ∷ xs) = holds_on (fold around_both (around_both a x) xs) (around_both a x) a (holds_start (around_both a x) xs) (holds_one a x)
+holds_start a (x ∷ xs) = holds_on (fold union (union a x) xs) (union a x) a (holds_start (union a x) xs) (holds_one a x)
 
-holds_each : (a : Rect) (xs : List Rect) (k : ℕ) (d : Rect) → k < length xs → Holds (fold around_both a xs) (get_or xs k d)
+holds_each : (a : Rect) (xs : List Rect) (k : ℕ) (d : Rect) → k < length xs → Holds (fold union a xs) (get_or xs k d)
 holds_each a [] k d lt = absurd (omega arith)
-holds_each a (x ∷ xs) zero d lt = holds_on (fold around_both (around_both a x) xs) (around_both a x) x (holds_start (around_both a x) xs) (holds_other a x)
-holds_each a (x ∷ xs) (suc k) d lt = holds_each (around_both a x) xs k d (omega arith)
+holds_each a (x ∷ xs) zero d lt = holds_on (fold union (union a x) xs) (union a x) x (holds_start (union a x) xs) (holds_other a x)
+holds_each a (x ∷ xs) (suc k) d lt = holds_each (union a x) xs k d (omega arith)
 
 pub around_holds : (xs : List Rect) (k : ℕ) (d : Rect) → k < length xs → Holds (around xs) (get_or xs k d)
 around_holds [] k d lt = absurd (omega arith)
@@ -59,15 +60,15 @@ holds_apart outer inner rect h apart =
 
 -- ---- the smallest box
 
-holds_both : (outer a b : Rect) → Holds outer a → Holds outer b → Holds outer (around_both a b)
+holds_both : (outer a b : Rect) → Holds outer a → Holds outer b → Holds outer (union a b)
 holds_both outer a b p q =
     let pl = p.left in let pt = p.top in let pr = p.right in let pb = p.bottom in
     let ql = q.left in let qt = q.top in let qr = q.right in let qb = q.bottom in
     record { left = omega arith; top = omega arith; right = omega arith; bottom = omega arith }
 
-holds_fold : (outer a : Rect) (xs : List Rect) → Holds outer a → ((k : ℕ) (d : Rect) → k < length xs → Holds outer (get_or xs k d)) → Holds outer (fold around_both a xs)
+holds_fold : (outer a : Rect) (xs : List Rect) → Holds outer a → ((k : ℕ) (d : Rect) → k < length xs → Holds outer (get_or xs k d)) → Holds outer (fold union a xs)
 holds_fold outer a [] first each = first
-holds_fold outer a (x ∷ xs) first each = holds_fold outer (around_both a x) xs (holds_both outer a x first (each 0 x (omega arith))) (λ k d lt. each (suc k) d (omega arith))
+holds_fold outer a (x ∷ xs) first each = holds_fold outer (union a x) xs (holds_both outer a x first (each 0 x (omega arith))) (λ k d lt. each (suc k) d (omega arith))
 
 pub least_around : (xs : List Rect) (outer : Rect) → 0 < length xs → ((k : ℕ) (d : Rect) → k < length xs → Holds outer (get_or xs k d)) → Holds outer (around xs)
 least_around [] outer some each = absurd (omega arith)

@@ -10,12 +10,12 @@ use Rattle.live_model.specs.declared.points.Rect.{Rect}
 use Rattle.live_model.specs.Geometry.{middle}
 
 -- the number whose bit 2k is bit k of this one, for each of its 32 bits
-unfoldable pub spread : ℕ → ℕ
-spread n = sum (map (λ k. bit_at n k * 2 ^ (2 * k)) (range_with_len 0 32))
+unfoldable pub interleave : ℕ → ℕ
+interleave n = sum (map (λ k. bit_at n k * 2 ^ (2 * k)) (range_with_len 0 32))
 
 -- the number whose bit 2k is bit k of x, and whose bit 2k + 1 is bit k of y
 unfoldable pub code : Point → ℕ
-code p = spread p.x + 2 * spread p.y
+code p = interleave p.x + 2 * interleave p.y
 
 -- a code, a number and a position
 abbrev pub Key : Type 0

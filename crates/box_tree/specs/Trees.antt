@@ -1,7 +1,8 @@
 -- Trees of boxes: a node's box is the smallest that holds those of its children.
-use Rattle.std.specs.Prelude.{ℕ, ◌≤◌, zero, suc, ◌+◌, ◌*◌, ◌/◌, min, max, List, [], ◌∷◌, length, take, drop, map, fold, nat_le, if◌then◌else◌}
+use Rattle.std.specs.Prelude.{ℕ, ◌≤◌, zero, suc, ◌+◌, ◌*◌, ◌/◌, List, [], ◌∷◌, length, take, drop, map, fold, nat_le, if◌then◌else◌}
 use Rattle.std.specs.List.{range_with_len}
 use Rattle.live_model.specs.declared.points.Rect.{Rect}
+use Rattle.live_model.specs.Points.{union}
 
 -- no edge of the inner box lies outside the outer one
 pub record Holds (outer inner : Rect) : Type 0 where
@@ -10,14 +11,10 @@ pub record Holds (outer inner : Rect) : Type 0 where
   pub right : inner.right ≤ outer.right
   pub bottom : inner.bottom ≤ outer.bottom
 
--- the smallest box that holds both
-abbrev pub around_both : Rect → Rect → Rect
-around_both a b = record { left = min a.left b.left; top = min a.top b.top; right = max a.right b.right; bottom = max a.bottom b.bottom }
-
 -- the smallest box that holds all of these; of none, the box of the north-west corner
 abbrev pub around : List Rect → Rect
 around [] = record { left = 0; top = 0; right = 0; bottom = 0 }
-around (box ∷ boxes) = fold around_both box boxes
+around (box ∷ boxes) = fold union box boxes
 
 -- the children of the node at a place of the level above: eight in order, or what is left
 abbrev pub children : List Rect → ℕ → List Rect

@@ -3,7 +3,7 @@
 ghost use Rattle.std.specs.Prelude.{◌≡◌, ◌+◌, ◌/◌, ◌<◌, ◌^◌, ◌≤◌, length, map, IfOk};
 ghost use Rattle.std.specs.List.{range_with_len};
 ghost use Rattle.std.specs.List.Sorted.{IsPermutation};
-ghost use Rattle.box_tree.specs.Packing.{spread, code, keys_of, IsPacking};
+ghost use Rattle.box_tree.specs.Packing.{interleave, code, keys_of, IsPacking};
 ghost use Rattle.live_model.specs.Geometry.{middle};
 
 use live_model::Rect;
@@ -47,12 +47,12 @@ fn positions(alloc: Global, keys: &[Key]) -> Mem<Vec<usize>>
     Ok(positions)
 }
 
-/// The code of the rectangle's centre.
+/// The code of the rectangle's centre in Morton order: the bits of its x and y interleaved.
 #[tactic(auto, unfolding(crate::specs::Packing::code))]
-fn code(rect: &Rect) -> u64
+pub fn code(rect: &Rect) -> u64
     ensures { result ≡ code (middle rect.now) }
 {
-    spread(half(rect.left, rect.right)) + 2 * spread(half(rect.top, rect.bottom))
+    interleave(half(rect.left, rect.right)) + 2 * interleave(half(rect.top, rect.bottom))
 }
 
 /// Half of a sum, rounded down.
@@ -65,9 +65,9 @@ fn half(low: u32, high: u32) -> u64
 
 /// The number whose bit 2k is bit k of this one, which has 32 bits. Each line parts the groups of bits that the one
 /// before it left, so that between them there is a gap as wide as they are: 16, 8, 4, 2 and at last 1.
-fn spread(number: u64) -> u64
+fn interleave(number: u64) -> u64
     requires { number < 2 ^ 32 }
-    ensures spread { result ≡ spread number }
+    ensures interleave { result ≡ interleave number }
     ensures gaps { result ≤ 0x5555_5555_5555_5555 }
 {
     let groups = (number | number << 16) & 0x0000_ffff_0000_ffff;

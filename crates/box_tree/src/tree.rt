@@ -2,7 +2,7 @@
 
 ghost use Rattle.std.specs.Prelude.{◌≡◌, ◌+◌, ◌*◌, ◌<◌, ◌≤◌, ◌/◌, IfOk, IfSome, length, slice_get};
 ghost use Rattle.std.specs.Option.{option_map};
-ghost use Rattle.box_tree.specs.Trees.{around_both, around, children, node_above, level_above, levels_of};
+ghost use Rattle.box_tree.specs.Trees.{around, children, node_above, level_above, levels_of};
 ghost use Rattle.box_tree.specs.Search.{first_meeting, nodes_between, nodes_meeting};
 
 use crate::FAN;
@@ -140,7 +140,7 @@ fn children(boxes: &[Rect], place: usize) -> &[Rect]
 }
 
 /// The smallest box around these; of none, that of the corner.
-fn around(boxes: &[Rect]) -> Rect
+pub fn around(boxes: &[Rect]) -> Rect
     ensures { result ≡ around boxes.now }
 {
     let [first, others @ ..] = boxes else {
@@ -149,7 +149,7 @@ fn around(boxes: &[Rect]) -> Rect
     let mut all = *first;
     let mut others = others;
     while let [next, rest @ ..] = others {
-        all = around_both(&all, next);
+        all = all.union(next);
         others = rest;
     }
     all
@@ -162,15 +162,3 @@ const CORNER: Rect = Rect {
     right: 0,
     bottom: 0,
 };
-
-/// The smallest box around two.
-fn around_both(one: &Rect, other: &Rect) -> Rect
-    ensures { result ≡ around_both one.now other.now }
-{
-    Rect {
-        left: one.left.min(other.left),
-        top: one.top.min(other.top),
-        right: one.right.max(other.right),
-        bottom: one.bottom.max(other.bottom),
-    }
-}

@@ -19,4 +19,4 @@ mod writing;
 pub use error::CoordError;
 pub use laws::{one_reading, points_again};
 pub use reading::decode;
-pub use writing::encode;
+pub use writing::{encode, put_points};

@@ -28,8 +28,9 @@ pub fn encode(points: &[Point], out: &mut Vec<u8>) -> Mem<()>
     }
 }
 
-/// The same, which may stop behind some of the points.
-fn put_points(points: &[Point], out: &mut Out) -> Mem<()>
+/// Appends the points to bytes that are being written, as `encode` spells them. After out of memory some of them may
+/// have been appended.
+pub fn put_points(points: &[Point], out: &mut Out) -> Mem<()>
     ensures { OnOk result (out.new ≡ out.old ++ point_list points.now) }
 {
     let mut from = ORIGIN;

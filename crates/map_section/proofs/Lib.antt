@@ -7,26 +7,8 @@ pub mod NodeWalk
 pub mod RecordWalk
 pub mod MarkSearch
 pub mod NumberWalk
-pub mod Sorting
-pub mod MapOrder
-pub mod Orders
-pub mod Steps
-pub mod Levels
-pub mod Cuts
-pub mod UsedTexts
-pub mod Sections
 mod Rows
 pub mod ObjectNumbers
-pub mod KeptItems
-pub mod BareFields
-pub mod BareBlocks
-pub mod BoxesAround
-pub mod BlockTexts
-pub mod BlockRecords
-pub mod BareTrees
-pub mod BareLevels
-pub mod BareSections
-pub mod PackedReadings
-pub mod FittingRecords
 pub mod SoundWalk
 pub mod Counts
+pub mod PackedMaps

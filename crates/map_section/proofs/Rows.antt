@@ -9,8 +9,9 @@ use Rattle.live_model.specs.declared.ids.Kind.{Kind}
 use Rattle.live_model.specs.declared.ids.Kind.TheVariants.{Node, Way}
 use Rattle.obf_wire.specs.Varint as X
 use Rattle.obf_wire.specs.Varint.{varint}
-use Rattle.box_tree.specs.Packing.{code, spread}
-use Rattle.map_section.specs.Packed.{packed, packed_map, block, blocks_of, map_packing, cuts}
+use Rattle.box_tree.specs.Packing.{code, interleave}
+use Rattle.boxed_write.specs.Packed.{packed, block, blocks_of, cuts}
+use Rattle.map_section.specs.Packed.{packed_map, map_packing}
 
 abbrev wide : ℕ → List ℕ
 wide n = 0 ∷ 0 ∷ 0 ∷ 0 ∷ 0 ∷ 0 ∷ 0 ∷ n ∷ []
@@ -37,11 +38,11 @@ block_of_one = refl
 section_of_one : packed_map (only ∷ [])
     ≡ (14 ∷ wide 26) ++ (8 ∷ 128 ∷ 164 ∷ 167 ∷ 218 ∷ 6 ∷ 16 ∷ 128 ∷ 210 ∷ 147 ∷ 173 ∷ 3 ∷ 24 ∷ 128 ∷ 164 ∷ 167 ∷ 218 ∷ 6 ∷ 32 ∷ 128 ∷ 210 ∷ 147 ∷ 173 ∷ 3 ∷ 40 ∷ 0 ∷ [])
     ++ (22 ∷ wide 37) ++ only_block
-unfolding packed code spread varint X.groups
+unfolding packed code interleave varint X.groups
 section_of_one = refl
 
 section_of_none : packed_map [] ≡ 14 ∷ wide 0
-unfolding packed code spread varint X.groups
+unfolding packed code interleave varint X.groups
 section_of_none = refl
 
 -- Three records in two shapes, given out of order: in the block they stand by id, and it has two texts.
@@ -60,7 +61,7 @@ section_of_three : packed_map (w1 ∷ n2 ∷ n1 ∷ [])
     ++ (18 ∷ 18 ∷ 8 ∷ 129 ∷ 128 ∷ 128 ∷ 128 ∷ 128 ∷ 128 ∷ 64 ∷ 16 ∷ 0 ∷ 24 ∷ 0 ∷ 32 ∷ 2 ∷ 42 ∷ 2 ∷ 2 ∷ 4 ∷ [])
     ++ (18 ∷ 12 ∷ 8 ∷ 1 ∷ 16 ∷ 0 ∷ 24 ∷ 0 ∷ 32 ∷ 2 ∷ 42 ∷ 2 ∷ 0 ∷ 0 ∷ [])
     ++ (18 ∷ 21 ∷ 8 ∷ 255 ∷ 255 ∷ 255 ∷ 255 ∷ 255 ∷ 255 ∷ 255 ∷ 1 ∷ 16 ∷ 1 ∷ 24 ∷ 1 ∷ 32 ∷ 1 ∷ 42 ∷ 4 ∷ 4 ∷ 4 ∷ 1 ∷ 0 ∷ [])
-unfolding packed code spread varint X.groups
+unfolding packed code interleave varint X.groups
 section_of_three = refl
 
 -- a record that stands twice is packed twice
@@ -68,7 +69,7 @@ twice : packed_map (n2 ∷ n2 ∷ [])
     ≡ (14 ∷ wide 10) ++ (8 ∷ 0 ∷ 16 ∷ 0 ∷ 24 ∷ 0 ∷ 32 ∷ 0 ∷ 40 ∷ 0 ∷ []) ++ (22 ∷ wide 46) ++ (14 ∷ wide 3) ++ (10 ∷ 1 ∷ 98 ∷ [])
     ++ (18 ∷ 18 ∷ 8 ∷ 130 ∷ 128 ∷ 128 ∷ 128 ∷ 128 ∷ 128 ∷ 64 ∷ 16 ∷ 0 ∷ 24 ∷ 0 ∷ 32 ∷ 1 ∷ 42 ∷ 2 ∷ 0 ∷ 0 ∷ [])
     ++ (18 ∷ 12 ∷ 8 ∷ 0 ∷ 16 ∷ 0 ∷ 24 ∷ 0 ∷ 32 ∷ 1 ∷ 42 ∷ 2 ∷ 0 ∷ 0 ∷ [])
-unfolding packed code spread varint X.groups
+unfolding packed code interleave varint X.groups
 twice = refl
 
 -- 65 nodes, node k at (k, 0): the tree has two leaves, and the second names its block by the 920 bytes of the first.
@@ -79,7 +80,7 @@ along k = drawn Node k 0 PointShape [] (at k 0 ∷ [])
 two_blocks : take 77 (packed_map (map along (range_with_len 0 65)))
     ≡ (14 ∷ wide 47) ++ (8 ∷ 0 ∷ 16 ∷ 0 ∷ 24 ∷ 64 ∷ 32 ∷ 0 ∷ []) ++ (54 ∷ wide 10) ++ (8 ∷ 0 ∷ 16 ∷ 0 ∷ 24 ∷ 63 ∷ 32 ∷ 0 ∷ 40 ∷ 0 ∷ [])
     ++ (54 ∷ wide 11) ++ (8 ∷ 64 ∷ 16 ∷ 0 ∷ 24 ∷ 64 ∷ 32 ∷ 0 ∷ 40 ∷ 152 ∷ 7 ∷ []) ++ (22 ∷ 0 ∷ 0 ∷ 0 ∷ 0 ∷ 0 ∷ 0 ∷ 3 ∷ 143 ∷ []) ++ (14 ∷ wide 0) ++ 18 ∷ 18 ∷ 8 ∷ []
-unfolding packed code spread varint X.groups
+unfolding packed code interleave varint X.groups
 two_blocks = refl
 
 -- Node k at (64 - k, 0): packed from the last node on, and each block by id.
@@ -88,7 +89,7 @@ abbrev back : ℕ → MapRec
 back k = drawn Node k 0 PointShape [] (at (64 - k) 0 ∷ [])
 
 packed_backwards : blocks_of map_packing (map back (range_with_len 0 65)) ≡ map back (range_with_len 1 64) ∷ (back 0 ∷ []) ∷ []
-unfolding code spread
+unfolding code interleave
 packed_backwards = refl
 
 -- nine leaves make two nodes below the root

@@ -29,9 +29,11 @@ use Rattle.map_section.specs.Listed.{AreSoundEntries, AreUtf8, HoldsBlock, Holds
 use Rattle.map_section.specs.Numbers.{StepsOn}
 use Rattle.map_section.specs.Pairs.{AreBlocks}
 use Rattle.map_section.proofs.BlockWalk.{IsSectionOf, held_block}
-use Rattle.map_section.proofs.FittingRecords.{Holds, PassUtf8, all_before, all_behind, drawn_by, texts_utf8}
+use Rattle.boxed_laws.specs.Classes.{PassUtf8}
+use Rattle.boxed_laws.proofs.FittingRecords.{Holds, all_before, all_behind, texts_utf8}
+use Rattle.map_section.specs.MapLawful.{drawn_by}
 use Rattle.map_section.proofs.NumberWalk.{at_place}
-use Rattle.map_section.proofs.ObjectNumbers.{object_good, ordinal_again}
+use Rattle.boxed_laws.proofs.ObjectNumbers.{object_good, ordinal_again}
 use Rattle.map_section.proofs.RecordWalk.{IsBlockOf, block_of, held_record, held_texts}
 
 -- ---- what the rules say

@@ -8,6 +8,7 @@ pub mod Pairs
 pub mod Sides
 pub mod Nodes
 pub mod Numbers
-pub mod Writing
+pub mod MapOrder
+pub mod MapLawful
 pub mod Packed
 pub mod Laws

@@ -10,8 +10,8 @@
 //! in it is an error; `count` tells how many there are; and what is packed is of good form, sound, and read as the same records.
 #![tactic(auto)]
 
-mod block_bytes;
 mod blocks;
+mod class;
 mod count;
 mod edges;
 mod entries;
@@ -20,14 +20,13 @@ mod laws;
 mod list;
 mod marks;
 mod nodes;
-mod packing;
 mod points;
 mod record_rules;
 mod section;
 mod texts;
-mod trees;
 mod writing;
 
+pub use class::MapClass;
 pub use laws::{
     any_order_packs_the_same, ordinals_name_objects, packed_sections_are_good,
     packing_keeps_each_record, sound_sections_fit,

@@ -50,7 +50,7 @@ use Rattle.file_grammar.specs.BoxRules.{section_facts}
 use Rattle.file_grammar.specs.Files.{FileParts, IsFile, file_facts, file_in, head_numbers, whole}
 use Rattle.file_grammar.proofs.Earlier.{one_first_break_law}
 use Rattle.file_grammar.proofs.ReadIsSpelled.{read_is_spelled}
-use Rattle.map_section.specs.Packed.{packed}
+use Rattle.boxed_write.specs.Packed.{packed}
 use Rattle.obf_writer.specs.PackedFile.{packed_file, IsPackedFile}
 use Rattle.outside.specs.declared.named_file.NamedFile.{NamedFile}
 use Rattle.outside.specs.Faults.{Rose}

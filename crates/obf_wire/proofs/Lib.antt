@@ -5,3 +5,4 @@ pub mod Writing
 pub mod NextField
 pub mod Overlong
 pub mod KnownKeys
+pub mod Begun

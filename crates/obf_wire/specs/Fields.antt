@@ -1,5 +1,5 @@
 -- Fields of a message: a key, then a number, or a length and a payload.
-use Rattle.std.specs.Prelude.{◌≡◌, ℕ, ◌+◌, ◌-◌, ◌*◌, ◌%◌, ◌^◌, ◌<◌, ◌≤◌, Bool, true, ◌||◌, List, ◌++◌, length, slice_range, nat_lt, ◌==◌, Option, Some, None, Result, Ok, Err, if◌then◌else◌}
+use Rattle.std.specs.Prelude.{◌≡◌, ℕ, ◌+◌, ◌-◌, ◌*◌, ◌%◌, ◌^◌, ◌<◌, ◌≤◌, Bool, true, ◌||◌, List, [], ◌∷◌, ◌++◌, length, slice_range, nat_lt, ◌==◌, Option, Some, None, Result, Ok, Err, if◌then◌else◌}
 use Rattle.std.specs.List.{list_any, list_all}
 use Rattle.std.specs.Int.{w64, to_be_bytes, from_be_bytes}
 use Rattle.obf_wire.specs.declared.breaks.WireBreak.{WireBreak}
@@ -35,6 +35,22 @@ field_spelling key value payload = varint key ++ content key value ++ payload
 -- a field of wire type 6
 abbrev pub section : ℕ → List ℕ → List ℕ
 section number payload = varint (number * 8 + 6) ++ to_be_bytes w64 (length payload) ++ payload
+
+-- a field that holds a number
+abbrev pub number_field : ℕ → ℕ → List ℕ
+number_field number value = field_spelling (number * 8) value []
+
+-- a field whose payload stands after its length as a number
+abbrev pub short_field : ℕ → List ℕ → List ℕ
+short_field number payload = field_spelling (number * 8 + 2) (length payload) payload
+
+-- the key of such a field, and a byte of room for the length
+abbrev pub begun_short : ℕ → List ℕ
+begun_short number = varint (number * 8 + 2) ++ 0 ∷ []
+
+-- the key of a field of wire type 6, and the length 0, as room for the length
+abbrev pub begun_section : ℕ → List ℕ
+begun_section number = varint (number * 8 + 6) ++ to_be_bytes w64 0
 
 -- ---- reading
 

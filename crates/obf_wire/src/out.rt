@@ -1,15 +1,20 @@
 //! Bytes in wire form, written at the end of what is there.
 
-ghost use Rattle.std.specs.Prelude.{◌≡◌, ◌+◌, ◌*◌, ◌^◌, ◌<◌, ◌≤◌, [], ◌∷◌, ◌++◌, length, take, IfOk, OnOk, OnErr};
+ghost use Rattle.std.specs.Prelude.{◌≡◌, ◌+◌, ◌-◌, ◌*◌, ◌^◌, ◌<◌, ◌≤◌, ℕ, List, [], ◌∷◌, ◌++◌, length, take, drop, IfOk, OnOk, OnErr};
+ghost use Rattle.std.specs.Int.{w64, to_be_bytes};
 ghost use Rattle.obf_wire.specs.Varint.{varint};
-ghost use Rattle.obf_wire.specs.Fields.{section};
+ghost use Rattle.obf_wire.specs.Fields.{section, number_field, short_field, begun_short, begun_section};
 
 use crate::varint::{LONGEST_VARINT, spell};
 use owned_data::{Mem, NoMemory};
 use std::alloc::Global;
 use std::marker::Model;
 
-/// Bytes that grow at their end, seen as the list of them. After want of memory they are as they were.
+/// How many bytes the length of a field of wire type 6 has.
+const LENGTH_BYTES: usize = 8;
+
+/// Bytes that grow at their end, seen as the list of them. After out of memory they are as they were, but for fields that are
+/// begun and ended in two calls, of which a part may be left at the end.
 #[derive(Debug, Drop)]
 pub struct Out {
     bytes: Vec<u8>,
@@ -92,7 +97,7 @@ impl Out {
         put
     }
 
-    // Want of memory may come behind a part.
+    /// The same, which may stop after a part.
     fn put_parts(&mut self, number: u64, payload: &[u8]) -> Mem<()>
         requires { number < 2 ^ 29 }
         ensures ok { OnOk result (self.new ≡ self.old ++ section number payload.now) }
@@ -101,6 +106,135 @@ impl Out {
         self.put_key(number, 6)?;
         self.put_bytes(&(payload.len() as u64).to_be_bytes())?;
         self.put_bytes(payload)
+    }
+
+    /// Appends a field of wire type 0: its key and a number.
+    pub fn put_number(&mut self, number: u64, value: u64) -> Mem<()>
+        requires { number < 2 ^ 29 }
+        ensures ok { OnOk result (self.new ≡ self.old ++ number_field number value) }
+        ensures err { OnErr result (self.new ≡ self.old) }
+    {
+        let start = self.bytes.len();
+        let put = self.put_number_parts(number, value);
+        if put.is_err() {
+            self.bytes.truncate(start);
+        }
+        put
+    }
+
+    /// The same, which may stop after the key.
+    fn put_number_parts(&mut self, number: u64, value: u64) -> Mem<()>
+        requires { number < 2 ^ 29 }
+        ensures ok { OnOk result (self.new ≡ self.old ++ number_field number value) }
+        ensures err { OnErr result (take (length self.old) self.new ≡ self.old) }
+    {
+        self.put_key(number, 0)?;
+        self.put_varint(value)
+    }
+
+    /// Appends a field of wire type 2: its key, the length of the payload as a number, and the payload.
+    pub fn put_short(&mut self, number: u64, payload: &[u8]) -> Mem<()>
+        requires { number < 2 ^ 29 }
+        ensures ok { OnOk result (self.new ≡ self.old ++ short_field number payload.now) }
+        ensures err { OnErr result (self.new ≡ self.old) }
+    {
+        let start = self.bytes.len();
+        let put = self.put_short_parts(number, payload);
+        if put.is_err() {
+            self.bytes.truncate(start);
+        }
+        put
+    }
+
+    /// The same, which may stop after a part.
+    fn put_short_parts(&mut self, number: u64, payload: &[u8]) -> Mem<()>
+        requires { number < 2 ^ 29 }
+        ensures ok { OnOk result (self.new ≡ self.old ++ short_field number payload.now) }
+        ensures err { OnErr result (take (length self.old) self.new ≡ self.old) }
+    {
+        self.put_key(number, 2)?;
+        self.put_varint(payload.len() as u64)?;
+        self.put_bytes(payload)
+    }
+
+    /// Begins a field of wire type 2 whose payload is yet to be appended: its key, and a byte of room for the length.
+    /// The answer is the offset of the payload, for `end_short`.
+    pub fn begin_short(&mut self, number: u64) -> Mem<usize>
+        requires { number < 2 ^ 29 }
+        ensures start { IfOk result (λ start. start ≡ length self.new) }
+        ensures ok { OnOk result (self.new ≡ self.old ++ begun_short number) }
+        ensures err { OnErr result (take (length self.old) self.new ≡ self.old) }
+    {
+        self.put_key(number, 2)?;
+        self.put_byte(0)?;
+        Ok(self.bytes.len())
+    }
+
+    /// Ends the field whose payload begins at this offset and is all that comes after it: puts its length before it.
+    /// Only a payload of 128 bytes or more is moved. After out of memory what was before the room for the length is left.
+    pub fn end_short(&mut self, start: usize) -> Mem<()>
+        requires some { 0 < start }
+        requires within { start ≤ length self.old }
+        ensures ok { OnOk result ((number : ℕ) (before payload : List ℕ) → self.old ≡ (before ++ begun_short number) ++ payload → start ≡ length (before ++ begun_short number) → self.new ≡ before ++ short_field number payload) }
+        ensures err { OnErr result (take (start - 1) self.new ≡ take (start - 1) self.old) }
+    {
+        let len = self.bytes.len() - start;
+        if len < 128 {
+            self.bytes[start - 1] = len as u8;
+            return Ok(());
+        }
+        self.put_length_before(start)
+    }
+
+    /// Puts the length of all that comes after an offset there, in place of the byte before it.
+    fn put_length_before(&mut self, start: usize) -> Mem<()>
+        requires some { 0 < start }
+        requires within { start ≤ length self.old }
+        ensures ok { OnOk result (self.new ≡ take (start - 1) self.old ++ varint (length self.old - start) ++ drop start self.old) }
+        ensures err { OnErr result (take (start - 1) self.new ≡ take (start - 1) self.old) }
+    {
+        let payload = Vec::from_slice(*self.bytes.allocator(), &self.bytes[start..])?;
+        self.bytes.truncate(start - 1);
+        self.put_varint(payload.len() as u64)?;
+        self.put_bytes(&payload)
+    }
+
+    /// Begins a field of wire type 6 whose payload is yet to be appended: its key, and eight bytes of room for the
+    /// length. The answer is the offset of the payload, for `end_section`.
+    pub fn begin_section(&mut self, number: u64) -> Mem<usize>
+        requires { number < 2 ^ 29 }
+        ensures start { IfOk result (λ start. start ≡ length self.new) }
+        ensures ok { OnOk result (self.new ≡ self.old ++ begun_section number) }
+        ensures err { OnErr result (take (length self.old) self.new ≡ self.old) }
+    {
+        self.put_key(number, 6)?;
+        self.put_bytes(&0_u64.to_be_bytes())?;
+        Ok(self.bytes.len())
+    }
+
+    /// Ends the field whose payload begins at this offset and is all that comes after it: puts its length before it. It
+    /// takes no memory, and moves nothing.
+    pub fn end_section(&mut self, start: usize)
+        requires some { 8 ≤ start }
+        requires within { start ≤ length self.old }
+        ensures { (number : ℕ) (before payload : List ℕ) → self.old ≡ (before ++ begun_section number) ++ payload → start ≡ length (before ++ begun_section number) → self.new ≡ before ++ section number payload }
+    {
+        let len = (self.bytes.len() - start) as u64;
+        self.bytes[start - LENGTH_BYTES..start].copy_from_slice(&len.to_be_bytes());
+    }
+
+    /// How many bytes there are.
+    pub fn len(&self) -> usize
+        ensures { result ≡ length self.now }
+    {
+        self.bytes.len()
+    }
+
+    /// The bytes, as they stand.
+    pub fn as_slice(&self) -> &[u8]
+        ensures { result.now ≡ self.now }
+    {
+        &self.bytes
     }
 
     /// The bytes, given back. It takes no memory.

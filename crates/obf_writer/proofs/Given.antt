@@ -16,7 +16,7 @@ use Rattle.live_model.specs.Records.{map_cmp}
 use Rattle.live_model.specs.Rules.{IsRule}
 use Rattle.stamp_core.specs.declared.head.Head.{Head}
 use Rattle.file_grammar.specs.Files.{head_numbers, is_head}
-use Rattle.map_section.proofs.Sorting.{all_more}
+use Rattle.boxed_write.proofs.Sorting.{all_more}
 use Rattle.obf_writer.specs.PackedFile.{AreParts}
 use Rattle.obf_writer.proofs.MarkSums.{contains_image, ordinals_of_ids, rising_image}
 

@@ -10,7 +10,7 @@ use Rattle.live_model.specs.Ids.{Id, IsId, ordinal}
 use Rattle.live_model.specs.Ordered.{IsRisingBy}
 use Rattle.file_grammar.specs.BoxRules.{with_before, follows, is_ordinal}
 use Rattle.file_grammar.specs.Files.{mark_rises, marks_beside, rise_strictly, sums_from}
-use Rattle.map_section.proofs.ObjectNumbers.{ordinal_is}
+use Rattle.boxed_laws.proofs.ObjectNumbers.{ordinal_is}
 use Rattle.obf_writer.specs.PackedFile.{steps_from}
 
 -- each number is an ordinal

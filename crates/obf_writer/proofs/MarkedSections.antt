@@ -9,9 +9,9 @@ use Rattle.file_grammar.specs.Facts.{AllHold, Fact}
 use Rattle.file_grammar.specs.Sections.{Block, Entry, Leaf, Section, leaves_in, object_of}
 use Rattle.file_grammar.specs.BoxRules.{Beside, block_facts, first_place, is_marked, is_ordinal, node_facts, paired_facts, section_facts, text_fact, with_before}
 use Rattle.file_grammar.specs.MapRules.{map_boxing, map_facts, map_fields, map_record_of, map_records_in}
-use Rattle.map_section.specs.Laws.{without_marks}
-use Rattle.map_section.proofs.BlockTexts.{all_join}
-use Rattle.map_section.proofs.ObjectNumbers.{ordinal_again}
+use Rattle.boxed_laws.specs.Classes.{without_marks}
+use Rattle.boxed_laws.proofs.BlockTexts.{all_join}
+use Rattle.boxed_laws.proofs.ObjectNumbers.{ordinal_again}
 use Rattle.obf_writer.proofs.MarkSums.{found}
 
 abbrev holds : Fact → Type 0

@@ -16,8 +16,10 @@ use Rattle.file_grammar.specs.Messages.{Fields, has_number, has_bytes, has_messa
 use Rattle.file_grammar.specs.Files.{HeadNumbers, whole}
 use Rattle.file_grammar.proofs.HeadsByNumbers.{HasSmallNumbers}
 use Rattle.file_grammar.proofs.Ranges.{range-parts}
-use Rattle.map_section.specs.Packed.{number_field, packed_map, short_field}
-use Rattle.map_section.proofs.BareFields.{Bare, no_more, a_number, some_numbers, a_message, bytes_of, stood, AreFormed, spelled, formed}
+use Rattle.obf_wire.specs.Fields.{number_field, short_field}
+use Rattle.map_section.specs.Packed.{packed_map}
+use Rattle.boxed_laws.specs.Bare.{Bare, no_more, a_number, some_numbers, a_message, bytes_of, stood, AreFormed}
+use Rattle.boxed_laws.proofs.BareFields.{spelled, formed}
 use Rattle.obf_writer.specs.PackedFile.{head_bytes, marks_bytes, no_addresses, no_roads, packed_file, steps_from}
 
 -- ---- the fields besides the map section

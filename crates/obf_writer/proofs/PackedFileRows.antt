@@ -16,11 +16,11 @@ use Rattle.text_pieces.specs.Escapes.{character_of, unescaped, text_of, escaped}
 use Rattle.obf_wire.specs.Fields.{field_at}
 use Rattle.obf_wire.specs.Varint as X
 use Rattle.obf_wire.specs.Varint.{varint, varint_in}
-use Rattle.box_tree.specs.Packing.{code, spread}
+use Rattle.box_tree.specs.Packing.{code, interleave}
 use Rattle.file_grammar.specs.Readings.{message_from}
 use Rattle.file_grammar.specs.BoxRules.{section_facts}
 use Rattle.file_grammar.specs.Files.{HeadNumbers, file_break, file_facts}
-use Rattle.map_section.specs.Packed.{packed}
+use Rattle.boxed_write.specs.Packed.{packed}
 use Rattle.obf_writer.specs.PackedFile.{packed_file}
 
 abbrev wide : ℕ → List ℕ
@@ -36,11 +36,11 @@ abbrev of_base : HeadNumbers
 of_base = record { level = 0; first = 0; last = 0 }
 
 base : packed_file of_base [] [] [] ≡ (8 ∷ 1 ∷ 18 ∷ 6 ∷ 8 ∷ 0 ∷ 16 ∷ 0 ∷ 24 ∷ 0 ∷ 26 ∷ 0 ∷ []) ++ (54 ∷ wide 9) ++ (14 ∷ wide 0) ++ behind (10 ∷ 0 ∷ [])
-unfolding packed_file packed code spread varint X.groups
+unfolding packed_file packed code interleave varint X.groups
 base = refl
 
 bytes_of_base : length (packed_file of_base [] [] []) ≡ 126
-unfolding packed_file packed code spread varint X.groups
+unfolding packed_file packed code interleave varint X.groups
 bytes_of_base = refl
 
 -- `point a b 0 map`
@@ -59,24 +59,24 @@ of_only =
 
 base_of_one : packed_file of_base (drawn ∷ []) [] (only ∷ [])
     ≡ (8 ∷ 1 ∷ 18 ∷ 6 ∷ 8 ∷ 0 ∷ 16 ∷ 0 ∷ 24 ∷ 0 ∷ 26 ∷ 16 ∷ []) ++ codes "point a b 0 map" ++ 10 ∷ (54 ∷ wide 81) ++ of_only ++ behind (10 ∷ 0 ∷ [])
-unfolding packed_file packed code spread varint X.groups rule_row rule_line escaped digits is_utf8 chars encode
+unfolding packed_file packed code interleave varint X.groups rule_row rule_line escaped digits is_utf8 chars encode
 base_of_one = refl
 
 -- the hour 2024-01-01-00 with the marks n1 and n4
 hour_of_one : packed_file (record { level = 1; first = 2024010100; last = 2024010100 }) (drawn ∷ []) (281474976710657 ∷ 281474976710660 ∷ []) (only ∷ [])
     ≡ (8 ∷ 1 ∷ 18 ∷ 14 ∷ 8 ∷ 1 ∷ 16 ∷ 244 ∷ 226 ∷ 143 ∷ 197 ∷ 7 ∷ 24 ∷ 244 ∷ 226 ∷ 143 ∷ 197 ∷ 7 ∷ 26 ∷ 16 ∷ []) ++ codes "point a b 0 map" ++ 10 ∷ (54 ∷ wide 81) ++ of_only
     ++ behind (10 ∷ 8 ∷ 129 ∷ 128 ∷ 128 ∷ 128 ∷ 128 ∷ 128 ∷ 64 ∷ 3 ∷ [])
-unfolding packed_file packed code spread varint X.groups rule_row rule_line escaped digits is_utf8 chars encode
+unfolding packed_file packed code interleave varint X.groups rule_row rule_line escaped digits is_utf8 chars encode
 hour_of_one = refl
 
 -- What is packed has no break.
 
 base_has_no_break : file_break (packed_file of_base [] [] []) ≡ None
-unfolding packed_file packed code spread varint X.groups rule_row rule_line escaped digits is_utf8 chars encode message_from field_at varint_in file_facts section_facts lines_from fields_from number_of character_of unescaped text_of shape_of admitted_of zoom_of poi_of named_class rule_fields rule_of
+unfolding packed_file packed code interleave varint X.groups rule_row rule_line escaped digits is_utf8 chars encode message_from field_at varint_in file_facts section_facts lines_from fields_from number_of character_of unescaped text_of shape_of admitted_of zoom_of poi_of named_class rule_fields rule_of
 base_has_no_break = refl
 
 hour_has_no_break : file_break (packed_file (record { level = 1; first = 2024010100; last = 2024010100 }) (drawn ∷ []) (281474976710657 ∷ 281474976710660 ∷ []) (only ∷ [])) ≡ None
-unfolding packed_file packed code spread varint X.groups rule_row rule_line escaped digits is_utf8 chars encode message_from field_at varint_in file_facts section_facts lines_from fields_from number_of character_of unescaped text_of shape_of admitted_of zoom_of poi_of named_class rule_fields rule_of
+unfolding packed_file packed code interleave varint X.groups rule_row rule_line escaped digits is_utf8 chars encode message_from field_at varint_in file_facts section_facts lines_from fields_from number_of character_of unescaped text_of shape_of admitted_of zoom_of poi_of named_class rule_fields rule_of
 hour_has_no_break = refl
 
 -- 65 nodes in two blocks, node k at (k, 0)
@@ -84,5 +84,5 @@ abbrev along : ℕ → MapRec
 along k = record { id = record { kind = Node; number = pos k }; rule = 0; shape = PointShape; name = codes "a"; points = record { x = k; y = 0 } ∷ [] }
 
 two_blocks_have_no_break : file_break (packed_file of_base (drawn ∷ []) [] (map along (range_with_len 0 65))) ≡ None
-unfolding packed_file packed code spread varint X.groups rule_row rule_line escaped digits is_utf8 chars encode message_from field_at varint_in file_facts section_facts lines_from fields_from number_of character_of unescaped text_of shape_of admitted_of zoom_of poi_of named_class rule_fields rule_of
+unfolding packed_file packed code interleave varint X.groups rule_row rule_line escaped digits is_utf8 chars encode message_from field_at varint_in file_facts section_facts lines_from fields_from number_of character_of unescaped text_of shape_of admitted_of zoom_of poi_of named_class rule_fields rule_of
 two_blocks_have_no_break = refl

@@ -19,12 +19,12 @@ use Rattle.file_grammar.specs.MapRules.{map_boxing, map_records_in}
 use Rattle.file_grammar.specs.Messages.{Fields, IsMessage, spelling}
 use Rattle.file_grammar.specs.Sections.{Section, section_in}
 use Rattle.file_grammar.proofs.HeadsByNumbers.{head_small}
-use Rattle.map_section.specs.Laws.{IsMapSection, in_blocks, without_marks}
-use Rattle.map_section.specs.Packed.{packed_map}
-use Rattle.map_section.specs.Writing.{HasId}
-use Rattle.map_section.proofs.BareSections.{packed_law}
-use Rattle.map_section.proofs.KeptItems.{kept}
-use Rattle.map_section.proofs.Sorting.{all_moved, all_more}
+use Rattle.boxed_laws.specs.Classes.{without_marks}
+use Rattle.map_section.specs.Laws.{IsMapSection, in_blocks}
+use Rattle.map_section.specs.Packed.{HasId, map_packing, packed_map}
+use Rattle.map_section.proofs.PackedMaps.{packed_law}
+use Rattle.boxed_laws.proofs.KeptItems.{kept}
+use Rattle.boxed_write.proofs.Sorting.{all_moved, all_more}
 use Rattle.obf_writer.specs.PackedFile.{AreParts, PackedFileLaw, packed_file, steps_from}
 use Rattle.obf_writer.proofs.MarkSums.{beside_marks, marks_again, none_in_base, ordinals_are, rise_is, steps_small}
 use Rattle.obf_writer.proofs.MarkedSections.{sound_with_marks}
@@ -73,7 +73,7 @@ module _ (head : HeadNumbers) (rules : List Rule) (marks : List ℕ) (records : 
   -- above a base each record of the section is of an object with a mark
   records_marked : (s : Section) → in_blocks records ≡ map_records_in s → head.level ≢ 0 → AllByRecursion (λ m. Contains marks (ordinal m.id)) (map_records_in s)
   records_marked s same above =
-      subst (AllByRecursion (λ (m : MapRec). Contains marks (ordinal m.id))) same (all_moved (λ (m : MapRec). Contains marks (ordinal m.id)) records (in_blocks records) (kept records) (p.marked above))
+      subst (AllByRecursion (λ (m : MapRec). Contains marks (ordinal m.id))) same (all_moved (λ (m : MapRec). Contains marks (ordinal m.id)) records (in_blocks records) (kept map_packing records) (p.marked above))
 
   sound_beside : (s : Section) → in_blocks records ≡ map_records_in s → AllHold (section_facts map_boxing (without_marks rules) s) → AllHold (section_facts map_boxing (stand_beside (head.level == 0)) s)
   sound_beside s same all = elim (head.level == 0) as (λ base. (head.level == 0) ≡ base → AllHold (section_facts map_boxing (stand_beside base) s)) [

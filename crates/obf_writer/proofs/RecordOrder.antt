@@ -14,11 +14,11 @@ use Rattle.live_model.specs.Maps as M
 use Rattle.live_model.specs.Maps.{in_order}
 use Rattle.live_model.specs.Records.{id_cmp, map_cmp, record_cmp}
 use Rattle.map_section.specs.Laws.{in_blocks}
-use Rattle.map_section.specs.Packed.{placed, sorted_by}
-use Rattle.map_section.specs.Writing.{HasId}
-use Rattle.map_section.proofs.KeptItems.{kept, moved_sorted, up_in_order}
-use Rattle.map_section.proofs.MapOrder.{map_total, same_record}
-use Rattle.map_section.proofs.Sorting.{sorted_is, up_from_sorted}
+use Rattle.boxed_write.specs.Packed.{placed, sorted_by}
+use Rattle.map_section.specs.Packed.{HasId, map_packing}
+use Rattle.boxed_laws.proofs.KeptItems.{kept, moved_sorted, up_in_order}
+use Rattle.map_section.specs.MapOrder.{map_total, same_record}
+use Rattle.boxed_write.proofs.Sorting.{sorted_is, up_from_sorted}
 
 twice : (o p : Ordering) → ordering_then o (ordering_then o p) ≡ ordering_then o p
 twice Less p = refl
@@ -53,4 +53,4 @@ sorted_again records others ids sorted moved =
 
 -- the records of the blocks, put in order
 pub order_again : (records : List MapRec) → AllByRecursion HasId records → IsSorted map_cmp records → map Map records ≡ in_order (map Map (in_blocks records))
-order_again records ids sorted = ap (map Map) (sorted_again records (in_blocks records) ids sorted (kept records)) ∙ sym (order_of_maps (in_blocks records))
+order_again records ids sorted = ap (map Map) (sorted_again records (in_blocks records) ids sorted (kept map_packing records)) ∙ sym (order_of_maps (in_blocks records))

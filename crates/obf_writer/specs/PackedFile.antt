@@ -15,7 +15,8 @@ use Rattle.obf_wire.specs.Varint.{varint}
 use Rattle.obf_wire.specs.Fields.{section}
 use Rattle.file_grammar.specs.BoxRules.{is_ordinal}
 use Rattle.file_grammar.specs.Files.{HeadNumbers, IsFile, is_head}
-use Rattle.map_section.specs.Packed.{number_field, short_field, packed_map}
+use Rattle.obf_wire.specs.Fields.{number_field, short_field}
+use Rattle.map_section.specs.Packed.{packed_map}
 
 -- The bytes.
 

@@ -12,11 +12,9 @@ ghost use Rattle.live_model.specs.Records.{map_cmp};
 ghost use Rattle.stamp_core.specs.Heads.{IsGoodHead};
 ghost use Rattle.stamp_core.specs.Hours.{IsCivilHour};
 ghost use Rattle.file_grammar.specs.Files.{head_numbers, hour_number, is_head};
-ghost use Rattle.obf_wire.specs.Fields.{section};
-ghost use Rattle.map_section.specs.Packed.{number_field, short_field};
+ghost use Rattle.obf_wire.specs.Fields.{section, number_field, short_field};
 ghost use Rattle.obf_writer.specs.PackedFile.{IsPackedFile, head_bytes, no_addresses, no_roads};
 
-use crate::fields::{put_number, put_short};
 use crate::marks::marks_bytes;
 use live_model::{MapRec, ObjId};
 use obf_wire::Out;
@@ -27,6 +25,32 @@ use tag_rules::Rules;
 
 /// The version of the format, which stands at the beginning and again at the end.
 const VERSION: u64 = 1;
+
+/// The numbers of the fields of a file.
+const VERSION_FIELD: u64 = 1;
+
+const HEAD_FIELD: u64 = 2;
+
+const RULES_FIELD: u64 = 3;
+
+const MAP_FIELD: u64 = 6;
+
+const ADDRESSES_FIELD: u64 = 7;
+
+const POIS_FIELD: u64 = 8;
+
+const ROADS_FIELD: u64 = 9;
+
+const MARKS_FIELD: u64 = 16;
+
+const LAST_VERSION_FIELD: u64 = 32;
+
+/// The numbers of the fields of a head.
+const LEVEL_FIELD: u64 = 1;
+
+const FIRST_FIELD: u64 = 2;
+
+const LAST_FIELD: u64 = 3;
 
 /// The section of addresses without any: no names, and no houses.
 const NO_ADDRESSES: [u8; 18] = [14, 0, 0, 0, 0, 0, 0, 0, 0, 22, 0, 0, 0, 0, 0, 0, 0, 0];
@@ -64,10 +88,10 @@ pub fn write_file(
     let head = head_bytes(alloc, head)?;
     let mut out = Out::new(alloc);
     put_front(&head, rules.text(), &mut out)?;
-    out.put_section(6, &map)?;
+    out.put_section(MAP_FIELD, &map)?;
     put_empty_sections(&mut out)?;
-    out.put_section(16, &marks)?;
-    put_number(32, VERSION, &mut out)?;
+    out.put_section(MARKS_FIELD, &marks)?;
+    out.put_number(LAST_VERSION_FIELD, VERSION)?;
     Ok(out.finish())
 }
 
@@ -75,9 +99,9 @@ pub fn write_file(
 fn put_front(head: &[u8], rules: &[u8], out: &mut Out) -> Mem<()>
     ensures { OnOk result (out.new ≡ out.old ++ number_field 1 1 ++ short_field 2 head.now ++ short_field 3 rules.now) }
 {
-    put_number(1, VERSION, out)?;
-    put_short(2, head, out)?;
-    put_short(3, rules, out)
+    out.put_number(VERSION_FIELD, VERSION)?;
+    out.put_short(HEAD_FIELD, head)?;
+    out.put_short(RULES_FIELD, rules)
 }
 
 /// The level, and the numbers of the first hour and the last, which are good where the head is.
@@ -86,9 +110,9 @@ fn head_bytes(alloc: Global, head: &Head) -> Mem<Vec<u8>>
     ensures good { OnOk result (IsTrue (is_head (head_numbers head.now)) ↔ IsGoodHead head.now) }
 {
     let mut out = Out::new(alloc);
-    put_number(1, head.level.number(), &mut out)?;
-    put_number(2, hour_number(head.first), &mut out)?;
-    put_number(3, hour_number(head.last), &mut out)?;
+    out.put_number(LEVEL_FIELD, head.level.number())?;
+    out.put_number(FIRST_FIELD, hour_number(head.first))?;
+    out.put_number(LAST_FIELD, hour_number(head.last))?;
     Ok(out.finish())
 }
 
@@ -107,7 +131,7 @@ fn hour_number(hour: Option<Stamp>) -> u64
 fn put_empty_sections(out: &mut Out) -> Mem<()>
     ensures { OnOk result (out.new ≡ out.old ++ section 7 no_addresses ++ section 8 [] ++ section 9 no_roads) }
 {
-    out.put_section(7, &NO_ADDRESSES)?;
-    out.put_section(8, &[])?;
-    out.put_section(9, &NO_ROADS)
+    out.put_section(ADDRESSES_FIELD, &NO_ADDRESSES)?;
+    out.put_section(POIS_FIELD, &[])?;
+    out.put_section(ROADS_FIELD, &NO_ROADS)
 }

@@ -8,7 +8,6 @@
 //! given, or `NoMemory`.
 #![tactic(auto)]
 
-mod fields;
 mod file;
 mod laws;
 mod marks;

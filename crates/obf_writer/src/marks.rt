@@ -6,11 +6,13 @@ ghost use Rattle.live_model.specs.Ids.{IsId, ordinal};
 ghost use Rattle.obf_wire.specs.Varint.{varint};
 ghost use Rattle.obf_writer.specs.PackedFile.{marks_bytes, steps_from};
 
-use crate::fields::put_short;
 use live_model::ObjId;
 use obf_wire::Out;
 use owned_data::Mem;
 use std::alloc::Global;
+
+/// The number of the field of the marks, as steps.
+const STEPS: u64 = 1;
 
 /// The bytes of the section of these marks.
 pub(crate) fn marks_bytes(alloc: Global, marks: &[ObjId]) -> Mem<Vec<u8>>
@@ -20,7 +22,7 @@ pub(crate) fn marks_bytes(alloc: Global, marks: &[ObjId]) -> Mem<Vec<u8>>
     let mut steps = Out::new(alloc);
     put_steps(marks, &mut steps)?;
     let mut out = Out::new(alloc);
-    put_short(1, &steps.finish(), &mut out)?;
+    out.put_short(STEPS, &steps.finish())?;
     Ok(out.finish())
 }
 

@@ -92,6 +92,14 @@ impl TextTable {
         }
     }
 
+    /// Appends the texts to bytes that are being written, as `write` does. After out of memory some of them may have been
+    /// appended.
+    pub fn put(&self, out: &mut Out) -> Mem<()>
+        ensures { OnOk result (out.new ≡ out.old ++ table_bytes self.now) }
+    {
+        put_texts(&self.texts, out)
+    }
+
     /// The place of a text, or the gap that it belongs in.
     fn search(&self, text: &str) -> Result<usize, usize>
         ensures place { MatchResult result (IsThere text.now self.now) (IsGap text.now self.now) }

@@ -1,4 +1,4 @@
-use Rattle.map_section.proofs.PackedReadings.{any_order}
+use Rattle.map_section.proofs.PackedMaps.{any_order}
 use Rattle.map_section.proofs.laws.any_order_packs_the_same.Goals as goal
 
 pub returns : goal.returns

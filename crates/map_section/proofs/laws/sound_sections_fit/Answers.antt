@@ -1,4 +1,4 @@
-use Rattle.map_section.proofs.FittingRecords.{fitting}
+use Rattle.map_section.proofs.PackedMaps.{fitting}
 use Rattle.map_section.proofs.laws.sound_sections_fit.Goals as goal
 
 pub returns : goal.returns

@@ -2,8 +2,8 @@ use Rattle.std.proofs.Common.{◌≡◌, ◌^◌, ◌<◌, ◌++◌, [], ℕ, Li
 use Rattle.live_model.specs.Ids.{ordinal}
 use Rattle.live_model.specs.Rules.{rules_text}
 use Rattle.file_grammar.specs.Files.{head_numbers}
-use Rattle.obf_wire.specs.Fields.{section}
-use Rattle.map_section.specs.Packed.{number_field, short_field, packed_map}
+use Rattle.obf_wire.specs.Fields.{section, number_field, short_field}
+use Rattle.map_section.specs.Packed.{packed_map}
 use Rattle.obf_writer.specs.PackedFile.{IsPackedFile, head_bytes, marks_bytes, no_addresses, no_roads, packed_file}
 use Rattle.obf_writer.proofs.Given.{given_parts}
 use Rattle.obf_writer.proofs.PackedFiles.{packed_file_law}
@@ -23,7 +23,7 @@ returns c =
     c.finish.ensures
     ∙ file_is (number_field 1 1) (short_field 2 numbers) (short_field 3 (rules_text c.args.rules.now)) (section 6 (packed_map c.args.records.now))
     (section 7 no_addresses) (section 8 []) (section 9 no_roads) (section 16 (marks_bytes (map ordinal c.args.marks.now))) (number_field 32 1)
-    c.new-out.result c.put_front.new.out c.put_section.new.self c.put_empty_sections.new.out c.put_section-2.new.self c.put_number.new.out
+    c.new-out.result c.put_front.new.out c.put_section.new.self c.put_empty_sections.new.out c.put_section-2.new.self c.put_number.new.self
     c.new-out.ensures
     (c.in_ok-put_front.ensures
     ∙ ap (λ (bytes : List ℕ). front ++ short_field 2 bytes ++ short_field 3 c.text.result.now) head_is
@@ -31,7 +31,7 @@ returns c =
     (c.in_ok-put_section.ensures.ok ∙ ap (λ (bytes : List ℕ). c.put_front.new.out ++ section 6 bytes) map_is)
     c.in_ok-put_empty_sections.ensures
     (c.in_ok-put_section-2.ensures.ok ∙ ap (λ (bytes : List ℕ). c.put_empty_sections.new.out ++ section 16 bytes) marks_are)
-    c.in_ok-put_number.ensures in
+    c.in_ok-put_number.ensures.ok in
     let parts = given_parts c.args.head.now c.args.rules.now c.args.marks.now c.args.records.now (c.in_ok-head.ensures.good.1 c.requires.good) (c.text.ensures.rules, c.text.ensures.few)
     c.requires.rise c.in_ok-marks.ensures.ids c.requires.base c.requires.sorted c.requires.fit c.requires.marked in
     let short : length (packed_file (head_numbers c.args.head.now) c.args.rules.now (map ordinal c.args.marks.now) c.args.records.now) < 2 ^ 64 =

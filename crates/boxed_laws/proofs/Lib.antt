@@ -1,0 +1,12 @@
+pub mod ObjectNumbers
+pub mod KeptItems
+pub mod BareFields
+pub mod BareBlocks
+pub mod BoxesAround
+pub mod BlockTexts
+pub mod BlockRecords
+pub mod BareTrees
+pub mod BareLevels
+pub mod BareSections
+pub mod PackedReadings
+pub mod FittingRecords

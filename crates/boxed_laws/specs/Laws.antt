@@ -1,0 +1,66 @@
+-- Laws of packed sections of any class.
+use Rattle.std.specs.Prelude.{◌≡◌, ◌<◌, ◌^◌, List, flat_map, map, length, None, Ok}
+use Rattle.std.specs.List.{AllByRecursion}
+use Rattle.std.specs.List.Sorted.{IsPermutation}
+use Rattle.live_model.specs.declared.rules.Rule.{Rule}
+use Rattle.obf_wire.specs.Fields.{Window, IsWindow, left_of}
+use Rattle.file_grammar.specs.Messages.{Fields, IsMessage}
+use Rattle.file_grammar.specs.Readings.{message_at, IsInMemory}
+use Rattle.file_grammar.specs.Facts.{AllHold, first_failing}
+use Rattle.file_grammar.specs.Sections.{Block, Section, section_in}
+use Rattle.file_grammar.specs.BoxRules.{Beside, section_facts}
+use Rattle.file_grammar.specs.declared.parts.Part.TheVariants.{Boxes}
+use Rattle.boxed_write.specs.Packed.{Packing, blocks_of, packed}
+use Rattle.boxed_laws.specs.Classes.{BoxedClass, without_marks}
+
+-- the records as they stand in their blocks
+abbrev pub in_blocks : {A : Type 0} → Packing A → List A → List A
+in_blocks packing records = flat_map (λ block. block) (blocks_of packing records)
+
+-- each record stands in one block, as often as it was given
+abbrev pub KeptLaw : {A : Type 0} → Packing A → Type 0
+KeptLaw {A} packing = (records : List A) → IsPermutation records (in_blocks packing records)
+
+-- the order in which records are given does not matter
+abbrev pub AnyOrderLaw : {A : Type 0} → Packing A → (A → Type 0) → Type 0
+AnyOrderLaw {A} packing fits = (a b : List A) → AllByRecursion fits a → IsPermutation a b → packed packing a ≡ packed packing b
+
+module _ {A : Type 0} (c : BoxedClass A) where
+  -- the records of a section in the order of the file
+  abbrev pub records_of : Block → List A
+  records_of block = map (c.reads block) block.entries
+
+  abbrev pub records_in : Section → List A
+  records_in section = flat_map records_of section.blocks
+
+  -- the bytes of the window are a section of these records, in the order of its blocks, and every rule holds of it
+  pub record IsSection (beside : Beside) (w : Window) (records : List A) : Type 0 where
+    pub fields : Fields
+    pub form : IsMessage (Boxes c.class) w fields
+    pub sound : AllHold (section_facts c.boxing beside (section_in fields))
+    pub records_are : records ≡ records_in (section_in fields)
+
+  -- the bytes of the window are read, field by field, to a section in which no rule fails and which holds these records in the
+  -- order of its blocks
+  pub record ReadsAs (beside : Beside) (w : Window) (records : List A) : Type 0 where
+    pub fields : Fields
+    pub read : message_at (Boxes c.class) w ≡ Ok fields
+    pub sound : first_failing (section_facts c.boxing beside (section_in fields)) ≡ None
+    pub records_are : records_in (section_in fields) ≡ records
+
+  module _ (suits : List Rule → A → Type 0) where
+    -- what is packed of records that suit the rules is a section of these records
+    abbrev pub PackedLaw : Type 0
+    PackedLaw =
+        (rules : List Rule) (records : List A) (w : Window) → length rules < 2 ^ 64 → AllByRecursion (suits rules) records → IsWindow w → length w.bytes < 2 ^ 64
+        → left_of w ≡ packed c.packing records → IsSection (without_marks rules) w (in_blocks c.packing records)
+
+    -- what is packed of records that suit the rules is read, in memory, to these records
+    abbrev pub PackedReadLaw : Type 0
+    PackedReadLaw =
+        (rules : List Rule) (records : List A) (w : Window) → length rules < 2 ^ 64 → AllByRecursion (suits rules) records → IsInMemory w
+        → left_of w ≡ packed c.packing records → ReadsAs (without_marks rules) w (in_blocks c.packing records)
+
+    -- the records of a section, however it is packed, suit the rules
+    abbrev pub FittingLaw : Type 0
+    FittingLaw = (beside : Beside) (w : Window) (records : List A) → IsSection beside w records → AllByRecursion (suits beside.rules) records

@@ -1,0 +1,9 @@
+pub mod Sorting
+pub mod Cuts
+pub mod Levels
+pub mod Orders
+pub mod Steps
+pub mod Sections
+pub mod UsedTexts
+pub mod Filled
+pub mod TiedParts
