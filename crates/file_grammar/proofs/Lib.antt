@@ -9,10 +9,7 @@ pub mod ReadIsSpelled
 pub mod SpelledIsRead
 pub mod Earlier
 pub mod Shaped
-mod Rows
-mod RuleRows
 pub mod FileShape
-mod FileRows
 pub mod HourNumbers
 pub mod HeadsByNumbers
 pub mod FileLaws

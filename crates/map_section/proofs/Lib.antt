@@ -7,7 +7,6 @@ pub mod NodeWalk
 pub mod RecordWalk
 pub mod MarkSearch
 pub mod NumberWalk
-mod Rows
 pub mod ObjectNumbers
 pub mod SoundWalk
 pub mod Counts

@@ -7,4 +7,3 @@ pub mod RecordOrder
 pub mod PackedFields
 pub mod PackedFiles
 pub mod Given
-mod PackedFileRows

@@ -1,0 +1,5 @@
+mod FormRows
+mod RuleRows
+mod FileRows
+mod PackedSectionRows
+mod PackedFileRows

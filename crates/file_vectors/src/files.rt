@@ -1,0 +1,132 @@
+//! Whole map files.
+
+ghost use Rattle.std.specs.Prelude.{◌≡◌, ◌<◌};
+ghost use Rattle.live_model.specs.Stores.{IsStore};
+
+use crate::sections::put_end;
+use derive_map::derive_all;
+use entity_store::Store;
+use live_model::{Level, Mem, ObjId, Steps};
+use obf_reader::{Image, images_are_files};
+use obf_wire::FileError;
+use obf_writer::write_file;
+use stamp_core::{Head, Stamp};
+use std::alloc::Global;
+use std::marker::Brand;
+use std::sync::ledger::{Blank, Ledger};
+use tag_rules::Rules;
+use vector_rows::{Answer, Fields, RowError, put_id, put_records, rules, store};
+
+/// Answers a row about files, if it is one.
+pub fn answer(
+    alloc: Global,
+    verb: &str,
+    fields: &mut Fields<'_>,
+    out: &mut Answer,
+) -> Result<bool, RowError> {
+    match verb {
+        "image" => image(alloc, fields, out)?,
+        "marked" => marked(alloc, fields, out)?,
+        "put_base" => base(alloc, fields, out)?,
+        "put_hour" => hour(alloc, fields, out)?,
+        _ => return Ok(false),
+    }
+    Ok(true)
+}
+
+/// What an image tells: its length, head, rules, marks, where its map section stands, and its records; or the first break.
+fn image(alloc: Global, fields: &mut Fields<'_>, out: &mut Answer) -> Result<(), RowError> {
+    let image = match Image::read(alloc, fields.hexadecimal(alloc)?) {
+        Ok(image) => image,
+        Err(found) => return put_end::<()>(&Err(found), out),
+    };
+    images_are_files(&image);
+    out.number(image.bytes().len() as u64)?;
+    put_head(image.head(), out)?;
+    out.word("rules")?;
+    out.number(u64::from(image.rules().len()))?;
+    out.word("marks")?;
+    out.number(image.mark_count() as u64)?;
+    if let Some(first) = image.mark_at(0) {
+        put_id(&first, out)?;
+    }
+    out.word("map")?;
+    out.number(image.map().from as u64)?;
+    out.number(image.map().to as u64)?;
+    out.word("records")?;
+    out.number(image.record_count() as u64)?;
+    put_records(&image.map().list(alloc, image.bytes())?, out)
+}
+
+/// Puts the number of a level, whether the head is good, and its hours.
+fn put_head(head: &Head, out: &mut Answer) -> Result<(), RowError> {
+    out.word("level")?;
+    out.number(head.level.number())?;
+    out.word(if head.is_good() { "good" } else { "bad" })?;
+    put_stamp(head.first, out)?;
+    put_stamp(head.last, out)
+}
+
+fn put_stamp(stamp: Option<Stamp>, out: &mut Answer) -> Result<(), RowError> {
+    match stamp {
+        Some(stamp) => out.number(stamp.number())?,
+        None => out.word("-")?,
+    }
+    Ok(())
+}
+
+/// Whether an image has the mark of an object.
+fn marked(alloc: Global, fields: &mut Fields<'_>, out: &mut Answer) -> Result<(), RowError> {
+    let id = fields.id()?;
+    match Image::read(alloc, fields.hexadecimal(alloc)?) {
+        Ok(image) => out.yes_or_no(image.marks_has(&id))?,
+        Err(found) => return put_end::<()>(&Err(found), out),
+    }
+    Ok(())
+}
+
+/// The head of a base.
+const BASE: Head = Head {
+    level: Level::Base,
+    first: None,
+    last: None,
+};
+
+/// The base file of the map records that rules make of a store.
+fn base(alloc: Global, fields: &mut Fields<'_>, out: &mut Answer) -> Result<(), RowError> {
+    let rules = rules(alloc, fields)?;
+    let store = store(alloc, fields)?;
+    let bytes = packed_base::<Brand>(alloc, &rules, &store, Blank::new(1))?;
+    out.hexadecimal(&bytes)?;
+    Ok(())
+}
+
+fn packed_base<L: Ledger>(alloc: Global, rules: &Rules, store: &Store, blank: Blank) -> Mem<Vec<u8>>
+    requires name { blank.name ≡ L.name }
+    requires parts { blank.parts ≡ L.parts }
+    requires some { 0 < blank.parts }
+    requires good { IsStore store.now }
+{
+    let mut steps = Steps::<L>::new(blank);
+    let records = derive_all(alloc, rules, store, &mut steps)?;
+    write_file(alloc, &BASE, rules, &[], &records)
+}
+
+/// The file of an hour with two marks and no records.
+fn hour(alloc: Global, fields: &mut Fields<'_>, out: &mut Answer) -> Result<(), RowError> {
+    let hour = Stamp::parse(fields.word()?).ok_or(RowError::BadRow)?;
+    let rules = rules(alloc, fields)?;
+    let first = fields.id()?;
+    let second = fields.id()?;
+    let head = Head {
+        level: Level::Hour,
+        first: Some(hour),
+        last: Some(hour),
+    };
+    if !head.is_good() || first.ordinal() >= second.ordinal() {
+        return Err(RowError::BadRow);
+    }
+    let bytes = write_file(alloc, &head, &rules, &[first, second], &[])?;
+    out.hexadecimal(&bytes)?;
+    Ok(())
+}

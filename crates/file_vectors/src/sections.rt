@@ -1,0 +1,142 @@
+//! Sections of map records.
+
+ghost use Rattle.std.specs.Prelude.{◌≡◌, ◌≤◌, ◌<◌, length};
+ghost use Rattle.live_model.specs.Stores.{IsStore};
+ghost use Rattle.map_section.specs.Marked.{AreRising};
+
+use crate::wire::{put_break, range};
+use derive_map::derive_all;
+use entity_store::Store;
+use live_model::{MapRec, Mem, Steps};
+use map_section::{Section, form, sound, write};
+use obf_wire::{FileError, Marks};
+use std::alloc::Global;
+use std::marker::Brand;
+use std::sync::ledger::{Blank, Ledger};
+use tag_rules::Rules;
+use vector_rows::{Answer, Fields, RowError, put_records, rules, store};
+
+/// Answers a row about sections, if it is one.
+pub fn answer(
+    alloc: Global,
+    verb: &str,
+    fields: &mut Fields<'_>,
+    out: &mut Answer,
+) -> Result<bool, RowError> {
+    match verb {
+        "section" => checked(alloc, fields, out)?,
+        "listed" => list(alloc, fields, out)?,
+        "put_section" => written(alloc, fields, out)?,
+        _ => return Ok(false),
+    }
+    Ok(true)
+}
+
+/// Puts that bytes are good, or their first break.
+pub fn put_end<T: Drop>(read: &Result<T, FileError>, out: &mut Answer) -> Result<(), RowError> {
+    match read {
+        Ok(_) => {
+            out.word("good")?;
+            Ok(())
+        }
+        Err(FileError::Broken(found)) => put_break(*found, out),
+        Err(FileError::NoMemory) => Err(RowError::NoMemory),
+    }
+}
+
+/// The first break of a section under rules, with every mark for `-`, or with one mark alone.
+fn checked(alloc: Global, fields: &mut Fields<'_>, out: &mut Answer) -> Result<(), RowError> {
+    let rules = rules(alloc, fields)?;
+    let mark = fields.word()?;
+    let range = range(alloc, fields)?;
+    let bytes = range.bytes.as_slice();
+    if mark == "-" {
+        return put_end(
+            &read(alloc, bytes, range.from, range.to, &rules, Marks::Any),
+            out,
+        );
+    }
+    let Ok(mark) = mark.parse::<u64>() else {
+        return Err(RowError::BadRow);
+    };
+    let marks = Marks::Only(&[mark]);
+    put_end(
+        &read(alloc, bytes, range.from, range.to, &rules, marks),
+        out,
+    )
+}
+
+/// A section: first its form, and then its rules.
+fn read(
+    alloc: Global,
+    bytes: &[u8],
+    from: usize,
+    to: usize,
+    rules: &Rules,
+    marks: Marks<'_>,
+) -> Result<Section, FileError>
+    requires ordered { from ≤ to }
+    requires within { to ≤ length bytes.now }
+    requires marks { AreRising marks }
+{
+    form(bytes, from, to)?;
+    sound(alloc, bytes, from, to, rules, marks)
+}
+
+/// How many records a section has, and these.
+fn list(alloc: Global, fields: &mut Fields<'_>, out: &mut Answer) -> Result<(), RowError> {
+    let rules = rules(alloc, fields)?;
+    let bytes = fields.hexadecimal(alloc)?;
+    match listed(alloc, &bytes, &rules) {
+        Ok(listed) => {
+            out.number(listed.count as u64)?;
+            put_records(&listed.records, out)
+        }
+        Err(found) => put_end::<()>(&Err(found), out),
+    }
+}
+
+/// The records of a section, and how many are counted.
+#[derive(Drop)]
+struct Listed {
+    records: Vec<MapRec>,
+    count: usize,
+}
+
+fn listed(alloc: Global, bytes: &[u8], rules: &Rules) -> Result<Listed, FileError> {
+    form(bytes, 0, bytes.len())?;
+    let section = sound(alloc, bytes, 0, bytes.len(), rules, Marks::Any)?;
+    // That a table has at most 100,000 rules is told with them.
+    let _ = rules.as_slice();
+    let records = section.list(alloc, bytes)?;
+    let count = section.count(bytes);
+    Ok(Listed { records, count })
+}
+
+/// The section of the map records that rules make of a store, and what is listed of it.
+fn written(alloc: Global, fields: &mut Fields<'_>, out: &mut Answer) -> Result<(), RowError> {
+    let rules = rules(alloc, fields)?;
+    let store = store(alloc, fields)?;
+    let bytes = packed::<Brand>(alloc, &rules, &store, Blank::new(1))?;
+    out.hexadecimal(&bytes)?;
+    match listed(alloc, &bytes, &rules) {
+        Ok(listed) => {
+            out.number(listed.count as u64)?;
+            put_records(&listed.records, out)
+        }
+        Err(found) => put_end::<()>(&Err(found), out),
+    }
+}
+
+fn packed<L: Ledger>(alloc: Global, rules: &Rules, store: &Store, blank: Blank) -> Mem<Vec<u8>>
+    requires name { blank.name ≡ L.name }
+    requires parts { blank.parts ≡ L.parts }
+    requires some { 0 < blank.parts }
+    requires good { IsStore store.now }
+{
+    let mut steps = Steps::<L>::new(blank);
+    let records = derive_all(alloc, rules, store, &mut steps)?;
+    let mut bytes = Vec::new(alloc);
+    write(alloc, &records, rules, &mut bytes)?;
+    Ok(bytes)
+}

@@ -1,5 +1,0 @@
-use Rattle.std.proofs.Common.{◌-◌}
-use Rattle.rule_speed.proofs.count_matching.Given as goal
-
-abbrev pub decreases-loop-from : goal.decreases-loop-from
-decreases-loop-from l = 100000 - l.from
