@@ -7,7 +7,7 @@ use live_model::{Rect, Steps};
 use std::alloc::Global;
 use std::marker::Brand;
 use std::sync::ledger::{Blank, Ledger};
-use vector_rows::{Answer, Fields, RowError};
+use vector_rows::{Answer, Fields, RowError, shared};
 
 /// Answers a row about boxes, if it is one.
 pub fn answer(
@@ -74,6 +74,7 @@ fn tree(alloc: Global, fields: &mut Fields<'_>) -> Result<Tree, RowError> {
 /// How many leaves a tree has, and the boxes of each level above them.
 fn levels(alloc: Global, fields: &mut Fields<'_>, out: &mut Answer) -> Result<(), RowError> {
     let tree = tree(alloc, fields)?;
+    shared(&tree);
     out.number(tree.leaves().len() as u64)?;
     for height in 0..tree.height() + 1 {
         out.word("level")?;

@@ -15,7 +15,7 @@ use std::alloc::Global;
 use std::marker::Brand;
 use std::sync::ledger::{Blank, Ledger};
 use tag_rules::Rules;
-use vector_rows::{Answer, Fields, RowError, put_id, put_records, rules, store};
+use vector_rows::{Answer, Fields, RowError, put_id, put_records, rules, shared, store};
 
 /// Answers a row about files, if it is one.
 pub fn answer(
@@ -41,6 +41,7 @@ fn image(alloc: Global, fields: &mut Fields<'_>, out: &mut Answer) -> Result<(),
         Err(found) => return put_end::<()>(&Err(found), out),
     };
     images_are_files(&image);
+    shared(&image);
     out.number(image.bytes().len() as u64)?;
     put_head(image.head(), out)?;
     out.word("rules")?;

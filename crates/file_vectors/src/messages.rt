@@ -2,7 +2,7 @@
 
 ghost use Rattle.std.specs.Prelude.{◌≡◌, ◌≤◌, length};
 
-use crate::wire::{put_break, put_field, range};
+use crate::wire::{next_range, put_break, put_field};
 use file_grammar::{Boxed, FieldWalk, FirstBreak, Group, Part, form};
 use obf_wire::FileKind;
 use std::alloc::Global;
@@ -38,7 +38,7 @@ fn part(fields: &mut Fields<'_>) -> Result<Part, RowError> {
 /// The first break of form of a message.
 fn form_of(alloc: Global, fields: &mut Fields<'_>, out: &mut Answer) -> Result<(), RowError> {
     let part = part(fields)?;
-    let range = range(alloc, fields)?;
+    let range = next_range(alloc, fields)?;
     match form(part, &range.bytes, range.from, range.to) {
         Ok(()) => {
             out.word("good")?;
@@ -51,7 +51,7 @@ fn form_of(alloc: Global, fields: &mut Fields<'_>, out: &mut Answer) -> Result<(
 /// The fields of a message of good form.
 fn walk(alloc: Global, fields: &mut Fields<'_>, out: &mut Answer) -> Result<(), RowError> {
     let part = part(fields)?;
-    let range = range(alloc, fields)?;
+    let range = next_range(alloc, fields)?;
     let mut walk = FieldWalk::new(part, &range.bytes, range.from, range.to);
     for _ in range.from..range.to + 1 {
         let Some(field) = walk.next() else {

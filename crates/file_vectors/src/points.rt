@@ -4,7 +4,7 @@ ghost use Rattle.std.specs.Prelude.{◌≡◌, ◌≤◌, IfOk, IfSome};
 ghost use Rattle.std.specs.List.{AllByRecursion};
 ghost use Rattle.live_model.specs.Points.{IsInGrid};
 
-use crate::wire::{put_break, range};
+use crate::wire::{next_range, put_break};
 use coord_delta::{CoordError, decode, encode};
 use live_model::Point;
 use obf_wire::FileBreak;
@@ -28,7 +28,7 @@ pub fn answer(
 
 /// The points of a range.
 fn read(alloc: Global, fields: &mut Fields<'_>, out: &mut Answer) -> Result<(), RowError> {
-    let range = range(alloc, fields)?;
+    let range = next_range(alloc, fields)?;
     match decode(alloc, &range.bytes, range.from, range.to) {
         Ok(points) => put_points(&points, out),
         Err(CoordError::OffGrid { index }) => {

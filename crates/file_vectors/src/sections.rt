@@ -4,7 +4,7 @@ ghost use Rattle.std.specs.Prelude.{◌≡◌, ◌≤◌, ◌<◌, length};
 ghost use Rattle.live_model.specs.Stores.{IsStore};
 ghost use Rattle.map_section.specs.Marked.{AreRising};
 
-use crate::wire::{put_break, range};
+use crate::wire::{next_range, put_break};
 use derive_map::derive_all;
 use entity_store::Store;
 use live_model::{MapRec, Mem, Steps};
@@ -48,7 +48,7 @@ pub fn put_end<T: Drop>(read: &Result<T, FileError>, out: &mut Answer) -> Result
 fn checked(alloc: Global, fields: &mut Fields<'_>, out: &mut Answer) -> Result<(), RowError> {
     let rules = rules(alloc, fields)?;
     let mark = fields.word()?;
-    let range = range(alloc, fields)?;
+    let range = next_range(alloc, fields)?;
     let bytes = range.bytes.as_slice();
     if mark == "-" {
         return put_end(
@@ -87,7 +87,7 @@ fn read(
 fn list(alloc: Global, fields: &mut Fields<'_>, out: &mut Answer) -> Result<(), RowError> {
     let rules = rules(alloc, fields)?;
     let bytes = fields.hexadecimal(alloc)?;
-    match listed(alloc, &bytes, &rules) {
+    match records_of(alloc, &bytes, &rules) {
         Ok(listed) => {
             out.number(listed.count as u64)?;
             put_records(&listed.records, out)
@@ -103,7 +103,7 @@ struct Listed {
     count: usize,
 }
 
-fn listed(alloc: Global, bytes: &[u8], rules: &Rules) -> Result<Listed, FileError> {
+fn records_of(alloc: Global, bytes: &[u8], rules: &Rules) -> Result<Listed, FileError> {
     form(bytes, 0, bytes.len())?;
     let section = sound(alloc, bytes, 0, bytes.len(), rules, Marks::Any)?;
     // That a table has at most 100,000 rules is told with them.
@@ -119,7 +119,7 @@ fn written(alloc: Global, fields: &mut Fields<'_>, out: &mut Answer) -> Result<(
     let store = store(alloc, fields)?;
     let bytes = packed::<Brand>(alloc, &rules, &store, Blank::new(1))?;
     out.hexadecimal(&bytes)?;
-    match listed(alloc, &bytes, &rules) {
+    match records_of(alloc, &bytes, &rules) {
         Ok(listed) => {
             out.number(listed.count as u64)?;
             put_records(&listed.records, out)

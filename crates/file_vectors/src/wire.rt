@@ -34,7 +34,7 @@ pub struct Range {
 }
 
 /// The range that the next three fields say: from where, up to where, and the bytes.
-pub fn range(alloc: Global, fields: &mut Fields<'_>) -> Result<Range, RowError>
+pub fn next_range(alloc: Global, fields: &mut Fields<'_>) -> Result<Range, RowError>
     ensures ordered { IfOk result (λ range. range.from ≤ range.to) }
     ensures within { IfOk result (λ range. range.to ≤ length range.bytes.items) }
 {
@@ -63,7 +63,7 @@ fn put_wire_break(found: WireBreak, out: &mut Answer) -> Result<(), RowError> {
 
 /// The number at a place, and the place behind it.
 fn varint(alloc: Global, fields: &mut Fields<'_>, out: &mut Answer) -> Result<(), RowError> {
-    let range = range(alloc, fields)?;
+    let range = next_range(alloc, fields)?;
     match read_varint(&range.bytes, range.from, range.to) {
         Ok((number, next)) => {
             out.number(number)?;
@@ -110,7 +110,7 @@ fn message(alloc: Global, fields: &mut Fields<'_>, out: &mut Answer) -> Result<(
 fn field(alloc: Global, fields: &mut Fields<'_>, out: &mut Answer) -> Result<(), RowError> {
     let keys = fields.word()?;
     let may_end = fields.word()? == "end";
-    let range = range(alloc, fields)?;
+    let range = next_range(alloc, fields)?;
     let mut cursor = Cursor::new(&range.bytes, range.from, range.to);
     let found = match keys {
         "" => cursor.next_field(&[], may_end),

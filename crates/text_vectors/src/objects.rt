@@ -6,7 +6,7 @@ use opl_reader::{OplError, read_all};
 use opl_writer::{put_line, write};
 use std::alloc::Global;
 use text_pieces::{put_bytes, put_number, put_signed};
-use vector_rows::{Answer, Fields, RowError, lines, store};
+use vector_rows::{Answer, Fields, RowError, lines, shared, store};
 
 /// Answers a row about objects, if it is one.
 pub fn answer(
@@ -66,6 +66,7 @@ fn whole(alloc: Global, fields: &mut Fields<'_>, out: &mut Answer) -> Result<(),
     let lines = lines(alloc, fields)?;
     let built = Store::build(alloc, &lines)?;
     let moved = Store::from_lines(alloc, lines)?;
+    shared(&moved);
     let text = write(alloc, built.as_slice())?;
     out.number(moved.len() as u64)?;
     out.agreed(moved.is_empty(), built.is_empty())?;

@@ -2,13 +2,14 @@
 
 ghost use Rattle.std.specs.Prelude.{◌≤◌, ◌+◌, ◌^◌, ◌<◌, length};
 
+use owned_data::{List, Text};
 use std::alloc::Global;
 use text_pieces::{
     EscapeError, all_blank, are_escapes, character, degrees, is_blank, is_digit, is_digits,
     next_field, next_line, number, put_degrees, put_escaped, put_number, put_signed, read_degrees,
     read_escaped, read_id,
 };
-use vector_rows::{Answer, Fields, RowError};
+use vector_rows::{Answer, Fields, RowError, shared};
 
 /// Answers a row about a piece of a text, if it is one.
 pub fn answer(
@@ -18,6 +19,8 @@ pub fn answer(
     out: &mut Answer,
 ) -> Result<bool, RowError> {
     match verb {
+        "list" => list(alloc, fields, out)?,
+        "text" => text(alloc, fields, out)?,
         "lines" => lines(alloc, fields, out)?,
         "fields" => parts(alloc, fields, out)?,
         "blank" => blank(alloc, fields, out)?,
@@ -59,6 +62,33 @@ fn written(
     }
     out.quoted(&text)?;
     Ok(true)
+}
+
+/// How many numbers a list has before and after they are pushed, and these, moved out of it and back.
+fn list(alloc: Global, fields: &mut Fields<'_>, out: &mut Answer) -> Result<(), RowError> {
+    let mut list = List::new(alloc);
+    out.yes_or_no(list.is_empty())?;
+    for _ in 0..fields.count() {
+        list.push(fields.number()?)?;
+    }
+    shared(&list);
+    let same = List::from_vec(list.into_vec());
+    out.number(same.len() as u64)?;
+    for number in same.as_slice() {
+        out.number(*number)?;
+    }
+    Ok(())
+}
+
+/// How many bytes a text has, whether it and the empty one are empty, and whether its copy is equal.
+fn text(alloc: Global, fields: &mut Fields<'_>, out: &mut Answer) -> Result<(), RowError> {
+    let text = Text::copied(alloc, fields.word()?)?;
+    shared(&text);
+    out.number(text.len() as u64)?;
+    out.yes_or_no(text.is_empty())?;
+    out.yes_or_no(Text::new(alloc).is_empty())?;
+    out.yes_or_no(text.copy(alloc)? == text)?;
+    Ok(())
 }
 
 /// The place of the first byte of a text, within bounds that every text of a row keeps.

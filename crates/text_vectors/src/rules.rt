@@ -1,9 +1,10 @@
 //! Tables of rules, and which rules match.
 
-use live_model::{Class, Line, Shape};
+use live_model::{Class, Line, List, Shape, Tag, Text};
 use std::alloc::Global;
 use tag_rules::{RuleError, Rules};
-use vector_rows::{Answer, Fields, RowError, lines, rules, shape_name};
+use text_pieces::put_bytes;
+use vector_rows::{Answer, Fields, RowError, lines, rules, shape_name, shared};
 
 /// Answers a row about rules, if it is one.
 pub fn answer(
@@ -15,6 +16,7 @@ pub fn answer(
     match verb {
         "rules" => read(alloc, fields, out)?,
         "rule" => one(alloc, fields, out)?,
+        "repeated" => repeated(alloc, fields, out)?,
         "matching" => matching(alloc, fields, out)?,
         _ => return Ok(false),
     }
@@ -25,16 +27,50 @@ pub fn answer(
 fn read(alloc: Global, fields: &mut Fields<'_>, out: &mut Answer) -> Result<(), RowError> {
     match Rules::read(alloc, &fields.bytes(alloc)?) {
         Ok(rules) => {
+            shared(&rules);
             out.number(u64::from(rules.len()))?;
             out.quoted(rules.text())?;
+            Ok(())
         }
-        Err(RuleError::Broken(found)) => {
+        Err(found) => put_error(alloc, found, out),
+    }
+}
+
+fn put_error(alloc: Global, found: RuleError, out: &mut Answer) -> Result<(), RowError> {
+    match found {
+        RuleError::Broken(found) => {
             let said = format!(in alloc; "{} at {}", found.kind, found.at);
             out.word(said.or(Err(RowError::NoMemory))?.as_str())?;
+            Ok(())
         }
-        Err(RuleError::NoMemory) => return Err(RowError::NoMemory),
+        RuleError::NoMemory => Err(RowError::NoMemory),
     }
-    Ok(())
+}
+
+/// How many rules a text has that begins with a line so many times, and the last that matches points with `a=b`; or the break.
+fn repeated(alloc: Global, fields: &mut Fields<'_>, out: &mut Answer) -> Result<(), RowError> {
+    let times = index(fields)?;
+    let line = fields.bytes(alloc)?;
+    let end = fields.bytes(alloc)?;
+    let mut text = Vec::new(alloc);
+    for _ in 0..times {
+        put_bytes(&mut text, &line)?;
+    }
+    put_bytes(&mut text, &end)?;
+    match Rules::read(alloc, &text) {
+        Ok(rules) => {
+            out.number(u64::from(rules.len()))?;
+            let mut tags = List::new(alloc);
+            let key = Text::copied(alloc, "a")?;
+            let value = Text::copied(alloc, "b")?;
+            tags.push(Tag { key, value })?;
+            let last = rules.len().saturating_sub(1);
+            let found = rules.matching(Shape::Point, &tags, last);
+            out.number_or_none(found.map(u64::from))?;
+            Ok(())
+        }
+        Err(found) => put_error(alloc, found, out),
+    }
 }
 
 /// The parts of a rule of a table.

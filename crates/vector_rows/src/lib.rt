@@ -13,8 +13,10 @@ mod asked;
 mod fields;
 mod records;
 mod spelled;
+mod threads;
 
 pub use answer::Answer;
 pub use asked::{lines, rules, store};
 pub use fields::{Fields, RowError, is_remark};
 pub use records::{put_id, put_point, put_points, put_records, shape_name};
+pub use threads::shared;

@@ -6,7 +6,7 @@ use Rattle.file_grammar.specs.declared.parts.Part.TheVariants.{Boxes}
 use Rattle.file_grammar.specs.Messages.{Fields}
 use Rattle.file_grammar.specs.Readings.{break_in, message_at}
 use Rattle.map_section.specs.Listed.{HoldsSection}
-use Rattle.file_vectors.proofs.sections.listed.Goals as goal
+use Rattle.file_vectors.proofs.sections.records_of.Goals as goal
 
 -- what is read without a break is there
 read_of : (r : Result Fields FileBreak) → None ≡ break_in r → (fields : Fields) × (r ≡ Ok fields)
