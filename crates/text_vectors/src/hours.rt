@@ -12,6 +12,7 @@ pub fn answer(verb: &str, fields: &mut Fields<'_>, out: &mut Answer) -> Result<b
         "next_hour" => put_text(hour(fields)?.next_hour(), out)?,
         "hours" => compared(fields, out)?,
         "head" => head(fields, out)?,
+        "levels" => levels(fields, out)?,
         _ => return Ok(false),
     }
     Ok(true)
@@ -98,5 +99,13 @@ fn head(fields: &mut Fields<'_>, out: &mut Answer) -> Result<(), RowError> {
     let head = Head { level, first, last };
     out.number(level.number())?;
     out.word(if head.is_good() { "good" } else { "bad" })?;
+    Ok(())
+}
+
+/// Whether the level of a number comes before that of another.
+fn levels(fields: &mut Fields<'_>, out: &mut Answer) -> Result<(), RowError> {
+    let one = Level::from_number(fields.number()?).ok_or(RowError::BadRow)?;
+    let other = Level::from_number(fields.number()?).ok_or(RowError::BadRow)?;
+    out.yes_or_no(one < other)?;
     Ok(())
 }
