@@ -28,6 +28,7 @@ pub fn answer(
         "image" => image(alloc, fields, out)?,
         "marked" => marked(alloc, fields, out)?,
         "put_base" => base(alloc, fields, out)?,
+        "listed" => listed(alloc, fields, out)?,
         "put_hour" => hour(alloc, fields, out)?,
         _ => return Ok(false),
     }
@@ -55,8 +56,7 @@ fn image(alloc: Global, fields: &mut Fields<'_>, out: &mut Answer) -> Result<(),
     out.number(image.map().from as u64)?;
     out.number(image.map().to as u64)?;
     out.word("records")?;
-    out.number(image.record_count() as u64)?;
-    put_records(&image.map().list(alloc, image.bytes())?, out)
+    put_listed(alloc, &image, out)
 }
 
 /// Puts the number of a level, whether the head is good, and its hours.
@@ -64,11 +64,11 @@ fn put_head(head: &Head, out: &mut Answer) -> Result<(), RowError> {
     out.word("level")?;
     out.number(head.level.number())?;
     out.word(if head.is_good() { "good" } else { "bad" })?;
-    put_stamp(head.first, out)?;
-    put_stamp(head.last, out)
+    put_stamp(&head.first, out)?;
+    put_stamp(&head.last, out)
 }
 
-fn put_stamp(stamp: Option<Stamp>, out: &mut Answer) -> Result<(), RowError> {
+fn put_stamp(stamp: &Option<Stamp>, out: &mut Answer) -> Result<(), RowError> {
     match stamp {
         Some(stamp) => out.number(stamp.number())?,
         None => out.word("-")?,
@@ -100,6 +100,22 @@ fn base(alloc: Global, fields: &mut Fields<'_>, out: &mut Answer) -> Result<(), 
     let bytes = packed_base::<Brand>(alloc, &rules, &store, Blank::new(1))?;
     out.hexadecimal(&bytes)?;
     Ok(())
+}
+
+/// How many records an image of such a file has, and these.
+fn listed(alloc: Global, fields: &mut Fields<'_>, out: &mut Answer) -> Result<(), RowError> {
+    let rules = rules(alloc, fields)?;
+    let store = store(alloc, fields)?;
+    let bytes = packed_base::<Brand>(alloc, &rules, &store, Blank::new(1))?;
+    match Image::read(alloc, bytes) {
+        Ok(image) => put_listed(alloc, &image, out),
+        Err(found) => put_end::<()>(&Err(found), out),
+    }
+}
+
+fn put_listed(alloc: Global, image: &Image, out: &mut Answer) -> Result<(), RowError> {
+    out.number(image.record_count() as u64)?;
+    put_records(&image.map().list(alloc, image.bytes())?, out)
 }
 
 fn packed_base<L: Ledger>(alloc: Global, rules: &Rules, store: &Store, blank: Blank) -> Mem<Vec<u8>>

@@ -7,14 +7,14 @@ ghost use Rattle.map_section.specs.Marked.{AreRising};
 use crate::wire::{next_range, put_break};
 use derive_map::derive_all;
 use entity_store::Store;
-use live_model::{MapRec, Mem, Steps};
+use live_model::{Mem, Steps};
 use map_section::{Section, form, sound, write};
 use obf_wire::{FileError, Marks};
 use std::alloc::Global;
 use std::marker::Brand;
 use std::sync::ledger::{Blank, Ledger};
 use tag_rules::Rules;
-use vector_rows::{Answer, Fields, RowError, put_records, rules, store};
+use vector_rows::{Answer, Fields, RowError, rules, store};
 
 /// Answers a row about sections, if it is one.
 pub fn answer(
@@ -25,7 +25,6 @@ pub fn answer(
 ) -> Result<bool, RowError> {
     match verb {
         "section" => checked(alloc, fields, out)?,
-        "listed" => list(alloc, fields, out)?,
         "put_section" => written(alloc, fields, out)?,
         _ => return Ok(false),
     }
@@ -83,49 +82,13 @@ fn read(
     sound(alloc, bytes, from, to, rules, marks)
 }
 
-/// How many records a section has, and these.
-fn list(alloc: Global, fields: &mut Fields<'_>, out: &mut Answer) -> Result<(), RowError> {
-    let rules = rules(alloc, fields)?;
-    let bytes = fields.hexadecimal(alloc)?;
-    match records_of(alloc, &bytes, &rules) {
-        Ok(listed) => {
-            out.number(listed.count as u64)?;
-            put_records(&listed.records, out)
-        }
-        Err(found) => put_end::<()>(&Err(found), out),
-    }
-}
-
-/// The records of a section, and how many are counted.
-#[derive(Drop)]
-struct Listed {
-    records: Vec<MapRec>,
-    count: usize,
-}
-
-fn records_of(alloc: Global, bytes: &[u8], rules: &Rules) -> Result<Listed, FileError> {
-    form(bytes, 0, bytes.len())?;
-    let section = sound(alloc, bytes, 0, bytes.len(), rules, Marks::Any)?;
-    // That a table has at most 100,000 rules is told with them.
-    let _ = rules.as_slice();
-    let records = section.list(alloc, bytes)?;
-    let count = section.count(bytes);
-    Ok(Listed { records, count })
-}
-
-/// The section of the map records that rules make of a store, and what is listed of it.
+/// The section of the map records that rules make of a store.
 fn written(alloc: Global, fields: &mut Fields<'_>, out: &mut Answer) -> Result<(), RowError> {
     let rules = rules(alloc, fields)?;
     let store = store(alloc, fields)?;
     let bytes = packed::<Brand>(alloc, &rules, &store, Blank::new(1))?;
     out.hexadecimal(&bytes)?;
-    match records_of(alloc, &bytes, &rules) {
-        Ok(listed) => {
-            out.number(listed.count as u64)?;
-            put_records(&listed.records, out)
-        }
-        Err(found) => put_end::<()>(&Err(found), out),
-    }
+    Ok(())
 }
 
 fn packed<L: Ledger>(alloc: Global, rules: &Rules, store: &Store, blank: Blank) -> Mem<Vec<u8>>

@@ -7,9 +7,9 @@ use vector_rows::{Answer, Fields, RowError};
 pub fn answer(verb: &str, fields: &mut Fields<'_>, out: &mut Answer) -> Result<bool, RowError> {
     match verb {
         "civil" => civil(fields, out)?,
-        "hour" => put_hour(Stamp::parse(fields.word()?), out)?,
-        "hour_number" => put_hour(Stamp::from_number(fields.number()?), out)?,
-        "next_hour" => put_text(hour(fields)?.next_hour(), out)?,
+        "hour" => put_hour(&Stamp::parse(fields.word()?), out)?,
+        "hour_number" => put_hour(&Stamp::from_number(fields.number()?), out)?,
+        "next_hour" => put_text(&hour(fields)?.next_hour(), out)?,
         "hours" => compared(fields, out)?,
         "head" => head(fields, out)?,
         "levels" => levels(fields, out)?,
@@ -32,11 +32,17 @@ fn hour_or_none(fields: &mut Fields<'_>) -> Result<Option<Stamp>, RowError> {
 }
 
 /// Puts the text of an hour, or `none`.
-fn put_text(hour: Option<Stamp>, out: &mut Answer) -> Result<(), RowError> {
-    let Some(hour) = hour else {
-        out.word("none")?;
-        return Ok(());
-    };
+fn put_text(hour: &Option<Stamp>, out: &mut Answer) -> Result<(), RowError> {
+    match hour {
+        Some(hour) => put_stamp(hour, out),
+        None => {
+            out.word("none")?;
+            Ok(())
+        }
+    }
+}
+
+fn put_stamp(hour: &Stamp, out: &mut Answer) -> Result<(), RowError> {
     let text = hour.text();
     match str::from_utf8(&text) {
         Ok(text) => out.word(text)?,
@@ -46,15 +52,17 @@ fn put_text(hour: Option<Stamp>, out: &mut Answer) -> Result<(), RowError> {
 }
 
 /// Puts the text of an hour, its number and its parts, or `none`.
-fn put_hour(hour: Option<Stamp>, out: &mut Answer) -> Result<(), RowError> {
-    put_text(hour, out)?;
-    if let Some(hour) = hour {
-        out.number(hour.number())?;
-        out.number(u64::from(hour.year()))?;
-        out.number(u64::from(hour.month()))?;
-        out.number(u64::from(hour.day()))?;
-        out.number(u64::from(hour.hour()))?;
-    }
+fn put_hour(hour: &Option<Stamp>, out: &mut Answer) -> Result<(), RowError> {
+    let Some(hour) = hour else {
+        out.word("none")?;
+        return Ok(());
+    };
+    put_stamp(hour, out)?;
+    out.number(hour.number())?;
+    out.number(u64::from(hour.year()))?;
+    out.number(u64::from(hour.month()))?;
+    out.number(u64::from(hour.day()))?;
+    out.number(u64::from(hour.hour()))?;
     Ok(())
 }
 
@@ -65,8 +73,8 @@ fn civil(fields: &mut Fields<'_>, out: &mut Answer) -> Result<(), RowError> {
     let day = (small(fields)? % 256) as u8;
     let hour = (small(fields)? % 256) as u8;
     match Stamp::new(year, month, day, hour) {
-        Ok(stamp) => put_text(Some(stamp), out),
-        Err(_) => put_text(None, out),
+        Ok(stamp) => put_stamp(&stamp, out),
+        Err(_) => put_text(&None, out),
     }
 }
 

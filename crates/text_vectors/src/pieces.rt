@@ -1,6 +1,6 @@
 //! Lines, fields, numbers, coordinates and escaped texts.
 
-ghost use Rattle.std.specs.Prelude.{◌≤◌, ◌+◌, ◌^◌, ◌<◌, length};
+ghost use Rattle.std.specs.Prelude.{◌≤◌, ◌+◌, IfOk, length};
 
 use owned_data::{List, Text};
 use std::alloc::Global;
@@ -91,15 +91,22 @@ fn text(alloc: Global, fields: &mut Fields<'_>, out: &mut Answer) -> Result<(), 
     Ok(())
 }
 
-/// The place of the first byte of a text, within bounds that every text of a row keeps.
-fn first_place(fields: &mut Fields<'_>) -> Result<usize, RowError> {
-    Ok(fields.number()?.min(1_000_000) as usize)
+/// Where a text begins, and its bytes, both within bounds that every row keeps.
+fn placed(alloc: Global, fields: &mut Fields<'_>) -> Result<(usize, Vec<u8>), RowError>
+    ensures { IfOk result (λ r. r.0 + length r.1.items ≤ 2000000) }
+{
+    let first = fields.number()?;
+    let text = fields.bytes(alloc)?;
+    if first <= 1_000_000 && text.len() <= 1_000_000 {
+        Ok((first as usize, text))
+    } else {
+        Err(RowError::BadRow)
+    }
 }
 
 fn lines(alloc: Global, fields: &mut Fields<'_>, out: &mut Answer) -> Result<(), RowError> {
-    let first = first_place(fields)?;
-    let text = fields.bytes(alloc)?;
-    let mut at = first.min(1_000_000);
+    let (first, text) = placed(alloc, fields)?;
+    let mut at = first;
     let mut rest = text.as_slice();
     while let Some(line) = next_line(at, rest) {
         out.number(line.at as u64)?;
@@ -111,9 +118,8 @@ fn lines(alloc: Global, fields: &mut Fields<'_>, out: &mut Answer) -> Result<(),
 }
 
 fn parts(alloc: Global, fields: &mut Fields<'_>, out: &mut Answer) -> Result<(), RowError> {
-    let first = first_place(fields)?;
-    let text = fields.bytes(alloc)?;
-    let mut at = first.min(1_000_000);
+    let (first, text) = placed(alloc, fields)?;
+    let mut at = first;
     let mut rest = text.as_slice();
     while let Some(field) = next_field(at, rest) {
         out.number(field.at as u64)?;
