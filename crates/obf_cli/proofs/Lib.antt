@@ -1,5 +1,0 @@
-mod GoodTexts
-mod Outcomes
-mod Causes
-mod Completion
-mod RunRows

@@ -1,8 +1,0 @@
-pub mod Requests
-pub mod Inputs
-pub mod FileLines
-pub mod Jobs
-pub mod Endings
-pub mod Reads
-pub mod Runs
-pub mod Finishing

@@ -1,16 +1,14 @@
 -- Reading a file whole, turn by turn.
 use Rattle.std.proofs.Common.{◌≡◌, ◌≢◌, ◌⊎◌, ℕ, ◌+◌, ◌≤◌, ◌<◌, List, [], ◌∷◌, ◌++◌, length, take, Option, Some, None, Ok, Err, refl, sym, ◌∙◌, ap, inl, inr, arith, append_assoc, length-append, add-zero, zero-add, add_assoc, append-nil, take_all}
-use Rattle.std.specs.List.{concat}
 use Rattle.std.proofs.lemmas.List.{length-take, nil_from_length}
-use Rattle.std.proofs.lemmas.List.Folds.{concat-append}
-use Rattle.std.proofs.lemmas.List.Elements.{All-nil, All-push}
+use Rattle.outside.proofs.ReadingLemmas.{bytes_given_push}
 use Rattle.std.proofs.Math.Seq.{take-add}
 use Rattle.outside.specs.declared.whole.WholeError.{WholeError}
 use Rattle.outside.specs.declared.whole.WholeError.TheVariants as error
 use Rattle.outside.specs.Faults.{Rose}
-use Rattle.outside.specs.Readings.{Reading, reading}
+use Rattle.outside.specs.Readings.{Reading, bytes_given, reading}
 use Rattle.outside.specs.Files.{Contents, FilesState, OnlyReads, Has, Lacks, IsPartOf, IsPartIn}
-use Rattle.outside.specs.Whole.{in_order, Gave, Tells, Exceeds, IsWhole, Explains, Settles}
+use Rattle.outside.specs.Whole.{Follow, Gave, Tells, Exceeds, IsWhole, Explains, Settles}
 use Rattle.outside.specs.Turns.{Takes, Stops}
 
 -- the bytes are the first of the file
@@ -31,26 +29,26 @@ pub record SoFar (before after : FilesState) (name : List ℕ) (most : ℕ) (byt
   pub only_reads : OnlyReads before after
   pub missing : Lacks before.contents name → after.read_faults ≡ before.read_faults
 
--- the pieces of a file and one behind them
-pub in_order-snoc : (name : List ℕ) (place : ℕ) (pieces : List (List ℕ)) (piece : List ℕ) → in_order name place (pieces ++ piece ∷ []) ≡ in_order name place pieces ++ reading name (place + length (concat pieces)) piece ∷ []
-in_order-snoc name place [] piece = simp add-zero
-in_order-snoc name place (p ∷ ps) piece = rw (in_order-snoc name (place + length p) ps piece, length-append p (concat ps), add_assoc place (length p) (length (concat ps))) refl
+-- readings that follow one another, and one more that begins where they ended
+pub follow-snoc : (name : List ℕ) (place : ℕ) (readings : List Reading) (last : Reading) → Follow name place readings → last.name ≡ name →
+    last.place ≡ place + length (bytes_given readings) → 0 < length last.bytes → Follow name place (readings ++ last ∷ [])
+follow-snoc name place [] last follow same next some = (same, next ∙ add-zero place, some, tt)
+follow-snoc name place (r ∷ rs) last follow same next some =
+    let further : last.place ≡ (place + length r.bytes) + length (bytes_given rs) = omega (arith, next, length-append r.bytes (bytes_given rs)) in
+    (follow.0, follow.1, follow.2, follow-snoc name (place + length r.bytes) rs last follow.3 same further some)
 
--- a reading behind those of the pieces is that of one more piece
-pub given-snoc : (old mid new : List Reading) (name : List ℕ) (pieces : List (List ℕ)) (piece bytes : List ℕ) → mid ≡ old ++ in_order name 0 pieces → bytes ≡ concat pieces →
-    new ≡ mid ++ reading name (length bytes) piece ∷ [] → new ≡ old ++ in_order name 0 (pieces ++ piece ∷ [])
-given-snoc old mid new name pieces piece bytes given joined more =
-    rw (in_order-snoc name 0 pieces piece, zero-add (length (concat pieces)), ← append_assoc old (in_order name 0 pieces) (reading name (length (concat pieces)) piece ∷ []), ← given, ← joined) more
-
--- a piece behind the pieces
-pub gave-more : (before mid after : FilesState) (name bytes piece : List ℕ) → Gave before mid name bytes → piece ≢ [] →
-    after.given ≡ mid.given ++ reading name (length bytes) piece ∷ [] → Gave before after name (bytes ++ piece)
-gave-more before mid after name bytes piece gave some more = record {
-  pieces = gave.pieces ++ piece ∷ [];
-  given = given-snoc before.given mid.given after.given name gave.pieces piece bytes gave.given gave.joined more;
-  each = All-push (λ (p : List ℕ). p ≢ []) gave.pieces piece gave.each some;
-  joined = rw (concat-append gave.pieces (piece ∷ []), ← gave.joined, append-nil piece) refl;
-}
+-- what was given before a reading that begins where it ended, and that reading
+pub gave-more : (before mid after : FilesState) (name bytes : List ℕ) (room : ℕ) (piece : List ℕ) → Gave before mid name bytes → 0 < length piece →
+    after.given ≡ mid.given ++ reading name (length bytes) room piece ∷ [] → Gave before after name (bytes ++ piece)
+gave-more before mid after name bytes room piece gave some more =
+    let last : Reading = reading name (length bytes) room piece in
+    let next : length bytes ≡ 0 + length (bytes_given gave.readings) = omega (arith, ap length gave.joined) in
+    record {
+      readings = gave.readings ++ last ∷ [];
+      given = more ∙ (ap (λ (given : List Reading). given ++ last ∷ []) gave.given ∙ append_assoc before.given gave.readings (last ∷ []));
+      follow = follow-snoc name 0 gave.readings last gave.follow refl next some;
+      joined = ap (λ (given : List ℕ). given ++ piece) gave.joined ∙ sym (bytes_given_push gave.readings last);
+    }
 
 -- the file has at least as many bytes as begin it
 begins-within : (file bytes : List ℕ) → bytes ≡ take (length bytes) file → length bytes ≤ length file
@@ -103,10 +101,10 @@ begins_empty (Some contents) name = begins_empty_of (contents name)
 -- no turn yet
 pub none_yet : (state : FilesState) (name : List ℕ) (most : ℕ) → SoFar state state name most []
 none_yet state name most = record {
-  gave = record { pieces = []; given = sym (append-nil state.given); each = All-nil (λ (p : List ℕ). p ≢ []); joined = refl };
+  gave = record { readings = []; given = sym (append-nil state.given); follow = tt; joined = refl };
   within = omega arith;
   begins = begins_empty state.contents name;
-  only_reads = record { contents = refl; write_faults = refl; read_faults = omega arith };
+  only_reads = record { contents = refl; writes = refl; write_faults = refl; read_faults = omega arith };
   missing = λ _. refl;
 }
 
@@ -114,6 +112,7 @@ none_yet state name most = record {
 pub reads-again : (before mid after : FilesState) → OnlyReads before mid → OnlyReads mid after → OnlyReads before after
 reads-again before mid after one two = record {
   contents = two.contents ∙ one.contents;
+  writes = two.writes ∙ one.writes;
   write_faults = two.write_faults ∙ one.write_faults;
   read_faults = omega arith;
 }
@@ -132,7 +131,7 @@ one_more before mid after name most old new count some so_far takes only missing
     let same : mid.contents ≡ before.contents = so_far.only_reads.contents in
     let part : IsPartIn before.contents name (length old) takes.gave.room takes.piece = rw (← same) takes.gave.told in
     rw takes.joined (record {
-      gave = gave-more before mid after name old takes.piece so_far.gave (λ e. absurd (omega (arith, takes.counted, ap length e))) takes.gave.given;
+      gave = gave-more before mid after name old takes.gave.room takes.piece so_far.gave (omega (arith, takes.counted, some)) takes.gave.given;
       within = rw (← takes.joined) takes.within;
       begins = begins-more before.contents name old takes.gave.room takes.piece so_far.begins part;
       only_reads = reads-again before mid after so_far.only_reads only;
@@ -148,12 +147,19 @@ the_last before mid after name most old new count none so_far takes =
     let short : length takes.piece ≡ 0 = takes.counted ∙ none in
     let empty : takes.piece ≡ [] = nil_from_length takes.piece short in
     let all : new ≡ old = takes.joined ∙ (ap (λ p. old ++ p) empty ∙ append-nil old) in
+    let end : List Reading = reading name (length old) takes.gave.room [] ∷ [] in
+    let given : after.given ≡ mid.given ++ end =
+    takes.gave.given ∙ ap (λ (piece : List ℕ). mid.given ++ reading name (length old) takes.gave.room piece ∷ []) empty in
+    let ended : after.given ≡ before.given ++ (so_far.gave.readings ++ end) =
+    given ∙ (ap (λ (given : List Reading). given ++ end) so_far.gave.given ∙ append_assoc before.given so_far.gave.readings end) in
     rw all (record {
       within = so_far.within;
       gave = record {
-        pieces = so_far.gave.pieces;
-        given = given-snoc before.given mid.given after.given name so_far.gave.pieces [] old so_far.gave.given so_far.gave.joined (rw (← empty) takes.gave.given);
-        each = so_far.gave.each;
+        readings = so_far.gave.readings;
+        room = takes.gave.room;
+        some_room = takes.gave.some_room;
+        given = ended;
+        follow = so_far.gave.follow;
         joined = so_far.gave.joined;
       };
       told = ends before.contents name old takes.gave.room takes.piece takes.gave.some_room short so_far.begins part;
@@ -164,13 +170,13 @@ pub explains : (before mid after : FilesState) (name : List ℕ) (most : ℕ) (o
     SoFar before mid name most old → Stops mid after name most old e → Explains before after name most e
 explains before mid after name most old error.NoMemory so_far stops = record {
   bytes = old ++ stops.piece;
-  gave = gave-more before mid after name old stops.piece so_far.gave (λ e. absurd (omega (arith, stops.some, ap length e))) stops.gave.given;
+  gave = gave-more before mid after name old stops.gave.room stops.piece so_far.gave stops.some stops.gave.given;
   count = rw (length-append old stops.piece) stops.within;
 }
 explains before mid after name most old error.Failed so_far stops = record {
   stopped = record {
     bytes = old;
-    gave = record { pieces = so_far.gave.pieces; given = stops.given ∙ so_far.gave.given; each = so_far.gave.each; joined = so_far.gave.joined };
+    gave = record { readings = so_far.gave.readings; given = stops.given ∙ so_far.gave.given; follow = so_far.gave.follow; joined = so_far.gave.joined };
     count = so_far.within;
   };
   cause = elim stops.cause [
@@ -184,7 +190,7 @@ explains before mid after name most old error.OverLimit so_far stops =
     let count : length (old ++ stops.piece) ≡ most + 1 = length-append old stops.piece ∙ stops.count in
     record {
       bytes = old ++ stops.piece;
-      gave = gave-more before mid after name old stops.piece so_far.gave (λ e. absurd (omega (arith, stops.count, so_far.within, ap length e))) stops.gave.given;
+      gave = gave-more before mid after name old stops.gave.room stops.piece so_far.gave (omega (arith, stops.count, so_far.within)) stops.gave.given;
       count = count;
       told = exceeds before.contents name (old ++ stops.piece) most (omega (arith, count)) count (begins-more before.contents name old stops.gave.room stops.piece so_far.begins part);
     }

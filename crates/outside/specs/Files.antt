@@ -1,19 +1,21 @@
 -- What can be told of files, and what a read and a write change.
-use Rattle.std.specs.Prelude.{◌≡◌, ◌≢◌, ◌⊎◌, ℕ, ◌≤◌, List, length, take, drop, Option, Some, None, Result, Ok, Err, OnErr, IsErr}
+use Rattle.std.specs.Prelude.{◌≡◌, ◌≢◌, ◌⊎◌, ℕ, ◌≤◌, List, [], ◌∷◌, ◌++◌, length, take, drop, Option, Some, None, Result, Ok, Err, OnErr, IsErr, is_ok}
 use Rattle.outside.specs.declared.failed.Failed.{Failed}
 use Rattle.outside.specs.Faults.{Rose}
-use Rattle.outside.specs.Readings.{Reading}
+use Rattle.outside.specs.Readings.{Reading, Writing, writing}
 
 -- the bytes of each name that has a file
 abbrev pub Contents : Type 0
 Contents = List ℕ → Option (List ℕ)
 
--- what can be told of files: nothing of the contents where these are not told
+-- What can be told of files: nothing of the contents where these are not told; two counts of faults; what the reads gave; and the
+-- writes that were tried.
 pub record FilesState : Type 0 where
   pub contents : Option Contents
   pub read_faults : ℕ
   pub write_faults : ℕ
   pub given : List Reading
+  pub writes : List Writing
 
 -- the contents are told, and the name has these bytes
 abbrev pub Has : Option Contents → List ℕ → List ℕ → Type 0
@@ -25,9 +27,10 @@ abbrev pub Lacks : Option Contents → List ℕ → Type 0
 Lacks None name = ⊥
 Lacks (Some contents) name = contents name ≡ None
 
--- reading changes no file, and raises no count but its own
+-- reading changes no file, writes nothing, and raises no count but its own
 pub record OnlyReads (before after : FilesState) : Type 0 where
   pub contents : after.contents ≡ before.contents
+  pub writes : after.writes ≡ before.writes
   pub write_faults : after.write_faults ≡ before.write_faults
   pub read_faults : before.read_faults ≤ after.read_faults
 
@@ -66,6 +69,10 @@ Writes None new name bytes result = new ≡ None
 Writes (Some old) None name bytes result = ⊥
 Writes (Some old) (Some new) name bytes (Ok u) = Replaces old new name bytes
 Writes (Some old) (Some new) name bytes (Err e) = OthersStay old new name
+
+-- one more write was tried, of these bytes under the name
+abbrev pub NotesWrite : List Writing → List Writing → List ℕ → List ℕ → Result (Unit {0}) Failed → Type 0
+NotesWrite old new name bytes result = new ≡ old ++ writing name bytes (is_ok result) ∷ []
 
 -- writing gives nothing, and raises no count but its own
 pub record OnlyWrites (before after : FilesState) : Type 0 where

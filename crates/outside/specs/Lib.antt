@@ -2,7 +2,7 @@ pub mod Faults
 pub mod Readings
 pub mod Files
 pub mod Sinks
-pub mod Pieces
+pub mod Notes
 pub mod Whole
 pub mod Turns
 pub mod Memory

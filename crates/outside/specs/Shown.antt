@@ -11,7 +11,8 @@ files_state m = record {
   contents = Some (contents_of m.files.items);
   read_faults = m.read_faults;
   write_faults = m.write_faults;
-  given = m.trace.readings;
+  given = m.trace.noted.given;
+  writes = m.trace.noted.writes;
 }
 
 abbrev pub sink_state : MemSink → SinkState

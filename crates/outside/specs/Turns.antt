@@ -8,9 +8,9 @@ use Rattle.outside.specs.Files.{FilesState, IsPartIn, Lacks}
 
 -- one read, with room for a byte at least, gave this piece of the file, from the place on
 pub record GavePiece (before after : FilesState) (name : List ℕ) (place : ℕ) (piece : List ℕ) : Type 0 where
-  pub given : after.given ≡ before.given ++ reading name place piece ∷ []
   pub room : ℕ
   pub some_room : 0 < room
+  pub given : after.given ≡ before.given ++ reading name place room piece ∷ []
   pub told : IsPartIn before.contents name place room piece
 
 -- a read gave a piece of this length, and it went behind the bytes

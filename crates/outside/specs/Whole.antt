@@ -1,30 +1,31 @@
 -- What it means that a file was read whole.
-use Rattle.std.specs.Prelude.{◌≡◌, ◌≢◌, ◌⊎◌, ℕ, ◌+◌, ◌≤◌, ◌<◌, List, [], ◌∷◌, ◌++◌, All, length, Option, Some, None, Result, IsErrOf, IsOkUnless}
-use Rattle.std.specs.List.{concat}
+use Rattle.std.specs.Prelude.{◌≡◌, ◌⊎◌, ℕ, ◌+◌, ◌≤◌, ◌<◌, List, [], ◌∷◌, ◌++◌, length, Option, Some, None, Result, IsErrOf, IsOkUnless}
 use Rattle.outside.specs.declared.whole.WholeError.{WholeError}
 use Rattle.outside.specs.declared.whole.WholeError.TheVariants as error
 use Rattle.outside.specs.Faults.{Rose}
-use Rattle.outside.specs.Readings.{Reading, reading}
+use Rattle.outside.specs.Readings.{Reading, bytes_given, reading}
 use Rattle.outside.specs.Files.{Contents, FilesState, Has, Lacks}
 
--- these pieces of a file, each from where the one before it ended
-abbrev pub in_order : List ℕ → ℕ → List (List ℕ) → List Reading
-in_order name place [] = []
-in_order name place (piece ∷ pieces) = reading name place piece ∷ in_order name (place + length piece) pieces
+-- readings of one name from an offset on, each from where the one before it ended, and each of at least one byte
+abbrev pub Follow : List ℕ → ℕ → List Reading → Type 0
+Follow name place [] = Unit {0}
+Follow name place (r ∷ rs) = (r.name ≡ name) × (r.place ≡ place) × (0 < length r.bytes) × Follow name (place + length r.bytes) rs
 
--- the reads in between gave these bytes of the name, from its start on, each read at least one of them
+-- the reads in between gave these bytes of the name, from its start on
 pub record Gave (before after : FilesState) (name bytes : List ℕ) : Type 0 where
-  pub pieces : List (List ℕ)
-  pub given : after.given ≡ before.given ++ in_order name 0 pieces
-  pub each : All (λ piece. piece ≢ []) pieces
-  pub joined : bytes ≡ concat pieces
+  pub readings : List Reading
+  pub given : after.given ≡ before.given ++ readings
+  pub follow : Follow name 0 readings
+  pub joined : bytes ≡ bytes_given readings
 
--- and a last read, behind them, gave nothing
+-- and a last read, after them, had room for a byte and gave nothing
 pub record GaveAll (before after : FilesState) (name bytes : List ℕ) : Type 0 where
-  pub pieces : List (List ℕ)
-  pub given : after.given ≡ before.given ++ in_order name 0 (pieces ++ [] ∷ [])
-  pub each : All (λ piece. piece ≢ []) pieces
-  pub joined : bytes ≡ concat pieces
+  pub readings : List Reading
+  pub room : ℕ
+  pub some_room : 0 < room
+  pub given : after.given ≡ before.given ++ (readings ++ reading name (length bytes) room [] ∷ [])
+  pub follow : Follow name 0 readings
+  pub joined : bytes ≡ bytes_given readings
 
 -- where contents are told, the name has these bytes
 abbrev pub Tells : Option Contents → List ℕ → List ℕ → Type 0
@@ -72,3 +73,9 @@ pub record Settles {T : Type 0} (before after : FilesState) (name : List ℕ) (m
       length file ≤ most → IsOkUnless result error.NoMemory
   pub long : (file : List ℕ) → Has before.contents name file → ¬ Rose before.read_faults after.read_faults →
       most < length file → IsErrOf result error.OverLimit ⊎ IsErrOf result error.NoMemory
+
+-- What is known wherever a reading of the name broke off: first bytes of it were given, at most one more than may be, or all of it.
+pub record ReadsPart (before after : FilesState) (name : List ℕ) (most : ℕ) : Type 0 where
+  pub bytes : List ℕ
+  pub gave : Gave before after name bytes ⊎ GaveAll before after name bytes
+  pub count : length bytes ≤ most + 1

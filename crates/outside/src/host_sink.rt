@@ -1,11 +1,12 @@
 //! A sink over a stream of the system.
 
-ghost use Rattle.std.specs.Prelude.{◌≡◌, [], ℕ, length, take};
-ghost use Rattle.outside.specs.Readings.{bytes_given};
+ghost use Rattle.std.specs.Prelude.{◌≡◌, ◌++◌, ◌≤◌, ◌<◌, [], ℕ, IfOk, OnErr, length, take};
+ghost use Rattle.std.specs.Io.KnownBytes.{WriteAppends};
+ghost use Rattle.outside.specs.Faults.{Blames};
 
 use crate::failed::Failed;
 use crate::sink::Sink;
-use crate::trace::{Piece, Trace};
+use crate::trace::{Note, Trace};
 use std::io::Write;
 
 /// A sink that writes to a stream. The stream should hold nothing back: what it keeps in a buffer counts as received.
@@ -38,17 +39,20 @@ impl<W: Write + Drop> HostSink<W> {
 }
 
 impl<W: Write + Drop> Sink for HostSink<W> {
-    ghost state = { λ sink. record { received = bytes_given sink.trace.readings; faults = sink.faults } };
+    ghost state = { λ sink. record { received = sink.trace.noted.received; faults = sink.faults } };
 
-    #[tactic(auto, using(crate::proofs::ReadingLemmas::bytes_given_push))]
-    fn put(&mut self, bytes: &[u8]) -> Result<usize, Failed> {
+    /// Where it is known what the stream holds, that grew by the bytes that were received.
+    fn put(&mut self, bytes: &[u8]) -> Result<usize, Failed>
+        ensures bound { IfOk result (λ n. n ≤ length bytes.now) }
+        ensures progress { IfOk result (λ n. 0 < length bytes.now → 0 < n) }
+        ensures received { IfOk result (λ n. self.new.trace.noted.received ≡ self.old.trace.noted.received ++ take n bytes.now) }
+        ensures not_received { OnErr result (self.new.trace.noted.received ≡ self.old.trace.noted.received) }
+        ensures cause { Blames self.old.faults self.new.faults result }
+        ensures stream { WriteAppends (W.contents self.old.stream) (W.contents self.new.stream) result bytes.now }
+    {
         match self.stream.write(bytes) {
             Ok(n) if n > 0 || bytes.is_empty() => {
-                self.trace = self.trace.and(&Piece {
-                    name: "",
-                    place: 0,
-                    bytes: &bytes[..n],
-                });
+                self.trace = self.trace.and(&Note::Received { bytes: &bytes[..n] });
                 Ok(n)
             }
             _ => {

@@ -1,8 +1,8 @@
 //! The program's outside: named files, sinks for what it writes, and gates that its threads tell where they are.
 //!
 //! Each is a trait whose contract says what a call may do, over a record of what can be told of the object (`state`).
-//! Its one idea: an object over the real thing tells no contents, yet what its reads gave and what its puts took is told
-//! by every object, so that a theorem on code that is generic over the traits speaks of real runs too.
+//! Its one idea: an object over the real thing tells no contents, yet what its reads gave, which writes were tried and what
+//! its puts took is told by every object, so that a theorem on code that is generic over the traits speaks of real runs too.
 //! A call fails only where the object's count of faults rose, or where told contents lack the name.
 //! `MemFiles` and `MemSink` hold bytes and fail at the calls that their maker lists; `HostFiles` and `HostSink` are the
 //! few trusted lines over the system. The layer above may rely on the traits' clauses, on `read_whole` and `put_all`.
@@ -17,9 +17,8 @@ mod mem_files;
 mod mem_sink;
 mod named_file;
 mod put;
+mod replacing;
 mod sink;
-#[cfg(test)]
-mod tests;
 mod trace;
 mod whole;
 

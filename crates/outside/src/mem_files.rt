@@ -9,7 +9,7 @@ ghost use Rattle.outside.specs.Memory.{contents_of, names_differ};
 use crate::failed::Failed;
 use crate::files::Files;
 use crate::named_file::NamedFile;
-use crate::trace::{Piece, Trace};
+use crate::trace::{Note, Trace};
 use owned_data::{List, Mem, Text};
 use std::alloc::Global;
 
@@ -48,6 +48,7 @@ impl MemFiles {
         ensures read_faults { (files_state result).read_faults ≡ 0 }
         ensures write_faults { (files_state result).write_faults ≡ 0 }
         ensures given { (files_state result).given ≡ [] }
+        ensures writes { (files_state result).writes ≡ [] }
     {
         MemFiles {
             alloc,
@@ -99,10 +100,12 @@ impl Files for MemFiles {
             self.read_faults = self.read_faults.saturating_add(1);
             return Err(Failed);
         }
+        let room = buf.len();
         let n = copy_part(file, place, self.most, buf);
-        self.trace = self.trace.and(&Piece {
+        self.trace = self.trace.and(&Note::Given {
             name,
             place,
+            room,
             bytes: &buf[..n],
         });
         Ok(n)
@@ -110,16 +113,18 @@ impl Files for MemFiles {
 
     fn write(&mut self, name: &str, bytes: &[u8]) -> Result<(), Failed> {
         self.writes = self.writes.saturating_add(1);
-        if self.failing_writes.contains(&self.writes) {
+        let is_done = !self.failing_writes.contains(&self.writes)
+            && replace(self.alloc, &mut self.files, name, bytes).is_ok();
+        self.trace = self.trace.and(&Note::Written {
+            name,
+            bytes,
+            is_done,
+        });
+        if is_done {
+            Ok(())
+        } else {
             self.write_faults = self.write_faults.saturating_add(1);
-            return Err(Failed);
-        }
-        match replace(self.alloc, &mut self.files, name, bytes) {
-            Ok(()) => Ok(()),
-            Err(_) => {
-                self.write_faults = self.write_faults.saturating_add(1);
-                Err(Failed)
-            }
+            Err(Failed)
         }
     }
 }

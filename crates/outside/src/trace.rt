@@ -1,47 +1,56 @@
-//! What calls gave or took, as a list that only proofs see. It takes no room and no time when the program runs.
+//! What calls gave and took, as lists that only proofs see. They take no room and no time when the program runs.
 
-ghost use Rattle.std.specs.Prelude.{◌≡◌, ◌++◌, ◌∷◌, [], List};
+ghost use Rattle.std.specs.Prelude.{◌≡◌};
 ghost use base.Fml.{ftrue};
-ghost use Rattle.outside.specs.Readings.{Reading, readings_code};
+ghost use Rattle.outside.specs.Readings.{Noted, noted_code, nothing_noted};
 
 use std::marker::Model;
 use std::mem::size_of;
 
-/// What the successful reads of an object gave so far, or its puts took.
+/// All that is noted of an object so far.
 #[derive(Drop)]
 pub(crate) struct Trace {
-    pub ghost readings: { List Reading } by { readings_code },
+    pub ghost noted: { Noted } by { noted_code },
 }
 
 impl Model for Trace {
     ghost also_owns = { λ _. ftrue };
 }
 
-/// What one read gave, or one put took.
+/// One call, as it is noted.
 #[derive(Clone, Copy)]
-pub(crate) struct Piece<'a> {
-    /// The name that was read; a put has none.
-    pub name: &'a str,
-    /// The place in the file that was asked for; 0 for a put.
-    pub place: u64,
-    /// The bytes that came, or that were taken.
-    pub bytes: &'a [u8],
+pub(crate) enum Note<'a> {
+    /// A read with room for so many bytes gave these bytes of the file `name`, from `place` on.
+    Given {
+        name: &'a str,
+        place: u64,
+        room: usize,
+        bytes: &'a [u8],
+    },
+    /// A write of these bytes under `name` answered Ok, or failed.
+    Written {
+        name: &'a str,
+        bytes: &'a [u8],
+        is_done: bool,
+    },
+    /// A put took these bytes.
+    Received { bytes: &'a [u8] },
 }
 
 impl Trace {
-    ghost use Rattle.outside.specs.Pieces.{reading_of};
+    ghost use Rattle.outside.specs.Notes.{with_note};
 
-    /// Nothing was given or taken yet.
+    /// Nothing is noted yet.
     pub(crate) fn new() -> Trace
-        ensures { result.readings ≡ [] }
+        ensures { result.noted ≡ nothing_noted }
     {
         Trace {}
     }
 
-    /// One more call gave or took this piece.
+    /// One more note.
     #[inline(always)]
-    pub(crate) fn and(&self, _piece: &Piece<'_>) -> Trace
-        ensures { result.readings ≡ self.now.readings ++ reading_of _piece.now ∷ [] }
+    pub(crate) fn and(&self, _note: &Note<'_>) -> Trace
+        ensures { result.noted ≡ with_note self.now.noted _note.now }
     {
         Trace {}
     }

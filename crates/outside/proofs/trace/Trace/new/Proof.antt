@@ -11,6 +11,7 @@ use denote.Triple.Entry.{on_entry}
 use denote.Triple.Walked.{walk_of, says, ends_at}
 use Rattle.outside.specs.contracts.trace.Trace.{the_row}
 use Rattle.outside.specs.contracts.trace.Trace.new as promise
+use Rattle.outside.specs.Readings.{nothing_noted}
 use Rattle.outside.proofs.Weightless.{no_bytes, for_nothing}
 use Rattle.outside.proofs.trace.Trace.new.Statement.{statement}
 use Rattle.outside.proofs.trace.Trace.new.Code as code
@@ -27,6 +28,6 @@ new_spec 𝓤 𝓛 𝓜 𝓡 wired =
     enter ! _ _ _ _ _ $ alloc_all ! (λ l. pass_all ! refl tt $
     sets ! (agg ! (no_more !)) refl (tt, tt) $
     returns ! (look_at ! 0 refl) $ free_all ! refl $
-    suffices ! _ (ends_at 𝓛 promise.ended tt clauses y no_bytes (record { readings = [] }) tt tt) $ says ! refl $
-    use0 𝓛 (‵ (the_row.own_val (record { readings = [] }) (no_bytes ∷ []))) (for_nothing 𝓛 []) $
+    suffices ! _ (ends_at 𝓛 promise.ended tt clauses y no_bytes (record { noted = nothing_noted }) tt tt) $ says ! refl $
+    use0 𝓛 (‵ (the_row.own_val (record { noted = nothing_noted }) (no_bytes ∷ []))) (for_nothing 𝓛 nothing_noted) $
     nothing ! $ nothing ! $ done !))

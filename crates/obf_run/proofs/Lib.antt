@@ -1,0 +1,3 @@
+pub mod GoodTexts
+pub mod Outcomes
+pub mod Finished

@@ -1,0 +1,34 @@
+-- What the last part of a run does: it writes what was made, and puts the answer.
+use Rattle.std.specs.Prelude.{List, ℕ, Some}
+use Rattle.outside.specs.Files.{FilesState}
+use Rattle.outside.specs.Sinks.{SinkState}
+use Rattle.outside.specs.declared.whole.WholeError.{WholeError}
+use Rattle.outside.specs.declared.whole.WholeError.TheVariants as error
+use Rattle.run_model.specs.Endings.{Ending, done, read_fault, write_fault, answer_fault, no_memory, over_limit}
+use Rattle.run_model.specs.Jobs.{Outcome}
+use Rattle.run_model.specs.Runs.{Change, IsNotWritten, IsTooLong, IsWrittenAs, IsOutput, Receives, ReceivesLess, ReceivesNothing}
+use Rattle.obf_run.specs.declared.packing.Built.{Built}
+
+-- a file that was built, and its line
+abbrev pub outcome_of : Built → Outcome
+outcome_of built = record { answer = built.line.items; written = Some built.bytes.items }
+
+-- the answer was put, or a part of it
+abbrev pub IsPut : Ending → Change SinkState → List ℕ → Type 0
+IsPut done out answer = Receives out answer
+IsPut answer_fault out answer = ReceivesLess out answer
+IsPut e out answer = ⊥
+
+-- the output of this name was written and its line put, or one of both was not
+abbrev pub IsFinished : Ending → List ℕ → Outcome → Change FilesState → Change SinkState → Type 0
+IsFinished (over_limit name) output outcome files out =
+    IsOutput name (Some output) outcome.written (IsTooLong files.before files.after) × ReceivesNothing out
+IsFinished (write_fault name) output outcome files out =
+    IsOutput name (Some output) outcome.written (IsNotWritten files.before files.after name) × ReceivesNothing out
+IsFinished e output outcome files out = IsWrittenAs files.before files.after (Some output) outcome.written × IsPut e out outcome.answer
+
+-- the ending where a file of this name was not read whole
+abbrev pub unread : List ℕ → WholeError → Ending
+unread name error.NoMemory = no_memory
+unread name error.Failed = read_fault name
+unread name error.OverLimit = over_limit name

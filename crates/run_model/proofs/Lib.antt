@@ -1,0 +1,6 @@
+pub mod Readings
+pub mod Causes
+pub mod Keeping
+pub mod Completion
+pub mod Runs
+pub mod OneOutcome

@@ -1,0 +1,88 @@
+-- The files that a run reads, in their order, and how each of them breaks.
+use Rattle.std.specs.Prelude.{ℕ, List, [], ◌∷◌, ◌++◌, codes, Option, Some, None}
+use Rattle.std.specs.Option.{option_map}
+use Rattle.std.specs.Fmt.{decimal as printed}
+use Rattle.live_model.specs.OplTexts.{kind_name, text_break}
+use Rattle.live_model.specs.Rules.{rule_kind_name, rules_break}
+use Rattle.obf_wire.specs.Kinds.{file_name as file_kind_name}
+use Rattle.file_grammar.specs.Files.{file_break}
+use Rattle.run_model.specs.Requests.{Asked, nodes, dump, build, check}
+use Rattle.run_model.specs.declared.breaks.Break.{Break}
+use Rattle.run_model.specs.declared.breaks.Break.TheVariants.{InRules, InObjects, InFile}
+use Rattle.run_model.specs.declared.breaks.RunKind.{RunKind}
+use Rattle.run_model.specs.declared.breaks.RunKind.TheVariants as kind
+
+-- what a file is read as
+pub data Grammar : Type 0 where
+  rule_table : Grammar
+  object_text : Grammar
+  map_file : Grammar
+
+-- a file that is read, by its name
+pub record Input : Type 0 where
+  pub name : List ℕ
+  pub grammar : Grammar
+
+abbrev pub input : List ℕ → Grammar → Input
+input name grammar = record { name = name; grammar = grammar }
+
+-- Which files are read: no more, or this one and then those that its text calls for. So a script may name the files that are
+-- read after it.
+pub data Plan : Type 0 where
+  no_more : Plan
+  reads : Input → (List ℕ → Plan) → Plan
+
+-- these files, whatever their texts are
+abbrev pub in_turn : List Input → Plan
+in_turn [] = no_more
+in_turn (file ∷ files) = reads file (λ text. in_turn files)
+
+-- the files that are read, in order
+abbrev pub plan_of : Asked → Plan
+plan_of (nodes rect base) = in_turn (input base object_text ∷ [])
+plan_of (dump base) = in_turn (input base object_text ∷ [])
+plan_of (build rules base output) = in_turn (input rules rule_table ∷ input base object_text ∷ [])
+plan_of (check file) = in_turn (input file map_file ∷ [])
+
+-- the most files that words may name, where a verb takes any number of them
+abbrev pub most_files : ℕ
+most_files = 1024
+
+-- How many files the words name, where the verb takes any number of them. No verb does yet.
+abbrev pub files_named : Asked → ℕ
+files_named a = 0
+
+-- the name of the file that is written, where one is
+abbrev pub output_of : Asked → Option (List ℕ)
+output_of (build rules base output) = Some output
+output_of a = None
+
+-- how the bytes of a file break first; none where they are in the grammar
+abbrev pub break_in : Grammar → List ℕ → Option Break
+break_in rule_table bytes = option_map (λ b. InRules b) (rules_break bytes)
+break_in object_text bytes = option_map (λ b. InObjects b) (text_break bytes)
+break_in map_file bytes = option_map (λ b. InFile b) (file_break bytes)
+
+-- the name of the kind, and the place
+abbrev pub break_text : Break → List ℕ
+break_text (InRules b) = rule_kind_name b.kind ++ codes " at " ++ printed b.at
+break_text (InObjects b) = kind_name b.kind ++ codes " at " ++ printed b.at
+break_text (InFile b) = file_kind_name b.kind ++ codes " at " ++ printed b.at
+
+-- a good file that does not follow those before it: its name, why, and its index among them
+pub record Misfit : Type 0 where
+  pub name : List ℕ
+  pub kind : RunKind
+  pub index : ℕ
+
+-- The first of good files that does not follow, as their texts tell. Every file of today's verbs stands alone.
+abbrev pub misfit_in : Asked → List (List ℕ) → Option Misfit
+misfit_in a texts = None
+
+-- the name of a kind of misfit
+abbrev pub run_kind_name : RunKind → List ℕ
+run_kind_name kind.IsBase = codes "IsBase"
+run_kind_name kind.OtherRules = codes "OtherRules"
+run_kind_name kind.StampNotLater = codes "StampNotLater"
+run_kind_name kind.OtherPeriod = codes "OtherPeriod"
+run_kind_name kind.NotBase = codes "NotBase"

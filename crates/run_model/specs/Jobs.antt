@@ -1,0 +1,110 @@
+-- What each verb prints, and what it writes.
+use Rattle.std.specs.Prelude.{◌≡◌, ℕ, List, [], ◌∷◌, length, Option, Some, None, IfSome}
+use Rattle.live_model.specs.declared.levels.Level.TheVariants.{Base}
+use Rattle.live_model.specs.declared.objects.Entity.{Entity}
+use Rattle.live_model.specs.declared.objects.Line.{Line}
+use Rattle.live_model.specs.declared.records.MapRec.{MapRec}
+use Rattle.live_model.specs.declared.records.Rec.{Rec}
+use Rattle.live_model.specs.declared.rules.Rule.{Rule}
+use Rattle.live_model.specs.CanonicalLines.{lines_text, nodes_in}
+use Rattle.live_model.specs.OplTexts.{OplText}
+use Rattle.live_model.specs.Rules.{RuleText}
+use Rattle.live_model.specs.Stores.{apply}
+use Rattle.stamp_core.specs.declared.head.Head.{Head}
+use Rattle.stamp_core.specs.Heads.{IsGoodHead}
+use Rattle.stamp_core.specs.Hours.{IsCivilHour}
+use Rattle.derive_map.specs.MapRecords.{drawn_of}
+use Rattle.file_grammar.specs.Files.{IsFile, head_numbers}
+use Rattle.obf_writer.specs.PackedFile.{IsPackedFile}
+use Rattle.run_model.specs.Requests.{Asked, nodes, dump, build, check}
+use Rattle.run_model.specs.FileLines.{file_line}
+use Rattle.run_model.specs.Inputs.{Misfit, Plan, files_named, misfit_in, output_of, plan_of}
+
+-- what is printed, and the bytes of the file that is written, where one is
+pub record Outcome : Type 0 where
+  pub answer : List ℕ
+  pub written : Option (List ℕ)
+
+abbrev pub prints : List ℕ → Outcome
+prints answer = record { answer = answer; written = None }
+
+-- the store is that of the lines that the text spells
+pub record IsStoreOf (text : List ℕ) (store : List Entity) : Type 0 where
+  pub lines : List Line
+  pub spelled : OplText text lines
+  pub same : store ≡ apply [] lines
+
+-- this is printed of the store that the text makes, and nothing is written
+pub record IsAnswered (text : List ℕ) (text_for : List Entity → List ℕ) (outcome : Outcome) : Type 0 where
+  pub store : List Entity
+  pub made : IsStoreOf text store
+  pub same : outcome ≡ prints (text_for store)
+
+-- the parts of a map file that is to be written
+pub record Parts : Type 0 where
+  pub head : Head
+  pub rules : List Rule
+  pub marks : List ℕ
+  pub records : List MapRec
+
+-- written is the packed file of these parts, and its line is printed
+pub record IsPacked (parts : Parts) (outcome : Outcome) : Type 0 where
+  pub bytes : List ℕ
+  pub file : IsPackedFile bytes (head_numbers parts.head) parts.rules parts.marks parts.records
+  pub same : outcome ≡ record { answer = file_line parts.head (length parts.marks) (length parts.records); written = Some bytes }
+
+-- a base has no hours
+abbrev pub base_head : Head
+base_head = record { level = Base; first = None; last = None }
+
+-- a base has the map records that the rules make of the store, and no marks
+abbrev pub base_parts : List Rule → List Entity → Parts
+base_parts rules store = record { head = base_head; rules = rules; marks = []; records = drawn_of rules store }
+
+-- the packed base of the rules and the store is written, and its line is printed
+pub record IsBuilt (table text : List ℕ) (outcome : Outcome) : Type 0 where
+  pub rules : List Rule
+  pub spelled : RuleText table rules
+  pub store : List Entity
+  pub made : IsStoreOf text store
+  pub packed : IsPacked (base_parts rules store) outcome
+
+-- the bytes are a map file, and its line is printed
+pub record IsChecked (bytes : List ℕ) (outcome : Outcome) : Type 0 where
+  pub head : Head
+  pub good : IsGoodHead head
+  pub civil : IfSome head.first IsCivilHour × IfSome head.last IsCivilHour
+  pub rules : List Rule
+  pub marks : List ℕ
+  pub records : List Rec
+  pub file : IsFile bytes (head_numbers head) rules marks records
+  pub same : outcome ≡ prints (file_line head (length marks) (length records))
+
+-- the outcome of what is asked for, where the files that are read have these bytes, in their order
+abbrev pub Job : Asked → List (List ℕ) → Outcome → Type 0
+Job (nodes rect base) (text ∷ []) outcome = IsAnswered text (λ store. lines_text (nodes_in rect store)) outcome
+Job (dump base) (text ∷ []) outcome = IsAnswered text lines_text outcome
+Job (build rules base output) (table ∷ text ∷ []) outcome = IsBuilt table text outcome
+Job (check file) (bytes ∷ []) outcome = IsChecked bytes outcome
+Job asked texts outcome = ⊥
+
+-- What a run is to do, of whatever verb.
+pub record Task : Type 1 where
+  -- how many files its words name, where there may be any number of them
+  pub file_count : ℕ
+  -- the files that it reads, in order
+  pub plan : Plan
+  -- of good files the first that does not follow, as their texts tell
+  pub misfit : List (List ℕ) → Option Misfit
+  -- the name of the file that it writes, where there is one
+  pub output : Option (List ℕ)
+  -- what it prints and writes of these texts, in the order of the plan
+  pub Does : List (List ℕ) → Outcome → Type 0
+
+abbrev pub task_of : Asked → Task
+task_of a = record { file_count = files_named a; plan = plan_of a; misfit = misfit_in a; output = output_of a; Does = Job a }
+
+-- Law: where a file is written, the texts determine what is printed and what is written.
+abbrev pub OneOutcomeLaw : Type 0
+OneOutcomeLaw =
+    (a : Asked) (output : List ℕ) (texts : List (List ℕ)) (one other : Outcome) → output_of a ≡ Some output → Job a texts one → Job a texts other → one ≡ other

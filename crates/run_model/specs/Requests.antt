@@ -1,0 +1,45 @@
+-- The words that the program takes: a verb, and then what this verb takes.
+use Rattle.std.specs.Prelude.{List, ℕ, [], ◌∷◌, Option, Some, None, codes, if◌then◌else◌}
+use Rattle.std.specs.Option.{option_and_then, option_map}
+use Rattle.std.specs.Str.{bytes_eq}
+use Rattle.live_model.specs.declared.points.Rect.{Rect}
+use Rattle.live_model.specs.Points.{rect_of}
+use Rattle.run_model.specs.declared.request.Request.{Request}
+use Rattle.run_model.specs.declared.request.Request.TheVariants as request
+use Rattle.run_model.specs.declared.request.Verb.{Verb}
+use Rattle.run_model.specs.declared.request.Verb.TheVariants as verb
+
+-- what is asked for, with the names of files as they were given
+pub data Asked : Type 0 where
+  nodes : Rect → (base : List ℕ) → Asked
+  dump : (base : List ℕ) → Asked
+  build : (rules base output : List ℕ) → Asked
+  check : (file : List ℕ) → Asked
+
+-- the verb of this name
+abbrev pub verb_of : List ℕ → Option Verb
+verb_of word =
+    if bytes_eq word (codes "nodes") then Some verb.Nodes
+    else if bytes_eq word (codes "dump") then Some verb.Dump
+    else if bytes_eq word (codes "build") then Some verb.Build
+    else if bytes_eq word (codes "check") then Some verb.Check
+    else None
+
+-- `nodes RECT BASE`, `dump BASE`, `build RULES BASE OUT` and `check FILE`, by the words after the verb
+abbrev pub asked_with : Verb → List (List ℕ) → Option Asked
+asked_with verb.Nodes (rect ∷ base ∷ []) = option_map (λ r. nodes r base) (rect_of rect)
+asked_with verb.Dump (base ∷ []) = Some (dump base)
+asked_with verb.Build (rules ∷ base ∷ output ∷ []) = Some (build rules base output)
+asked_with verb.Check (file ∷ []) = Some (check file)
+asked_with verb words = None
+
+abbrev pub asked_by : List (List ℕ) → Option Asked
+asked_by [] = None
+asked_by (word ∷ words) = option_and_then (λ verb. asked_with verb words) (verb_of word)
+
+-- what a request that was read asks for
+abbrev pub asked : Request → Asked
+asked (request.Nodes rect base) = nodes rect base.now
+asked (request.Dump base) = dump base.now
+asked (request.Build rules base output) = build rules.now base.now output.now
+asked (request.Check file) = check file.now
