@@ -69,11 +69,11 @@ impl<'a, R: rt::Files> HostFiles<'a, R> {
 /// A file that is written comes into its place whole, but where the name has a device, a pipe or the like.
 impl<R: rt::Files> Files for HostFiles<'_, R> {
     ghost state = { λ files. record {
-        contents = None;
-        read_faults = files.read_faults;
-        write_faults = files.write_faults;
-        given = files.trace.noted.given;
-        writes = files.trace.noted.writes;
+      contents = None;
+      read_faults = files.read_faults;
+      write_faults = files.write_faults;
+      given = files.trace.noted.given;
+      writes = files.trace.noted.writes;
     } };
 
     fn read(&mut self, name: &str, place: u64, buf: &mut [u8]) -> Result<usize, Failed> {
@@ -137,11 +137,7 @@ fn read_at<R: rt::Files>(
 }
 
 /// The open file, where it has this name and its next read begins at this place. No file is open then.
-fn take_opened<F: Drop>(
-    opened: &mut Option<OpenedFile<F>>,
-    name: &str,
-    place: u64,
-) -> Option<F>
+fn take_opened<F: Drop>(opened: &mut Option<OpenedFile<F>>, name: &str, place: u64) -> Option<F>
     ensures same { IfSome result (λ file. opened.old ≡ Some (record { name = name.now; file = file; place = place })) }
     ensures none { opened.new ≡ None }
 {

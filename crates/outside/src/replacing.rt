@@ -25,7 +25,13 @@ pub(crate) fn write_whole<R: rt::Files>(
         Err(e) => return Err(e),
     };
     if found.is_file() {
-        return replace(runtime, alloc, Path::new(name), bytes, Some(found.permissions()));
+        return replace(
+            runtime,
+            alloc,
+            Path::new(name),
+            bytes,
+            Some(found.permissions()),
+        );
     }
     if found.is_symlink() && fs::metadata(runtime, name)?.is_file() {
         return write_linked(runtime, alloc, name, bytes);
@@ -42,7 +48,13 @@ fn write_linked<R: rt::Files>(
 ) -> io::Result<()> {
     let path = runtime.canonicalize(alloc, name)?;
     let found = fs::metadata(runtime, path.as_path())?;
-    replace(runtime, alloc, path.as_path(), bytes, Some(found.permissions()))
+    replace(
+        runtime,
+        alloc,
+        path.as_path(),
+        bytes,
+        Some(found.permissions()),
+    )
 }
 
 /// Puts a new file with these bytes, and with the permissions of the old one, in the place of `path`.

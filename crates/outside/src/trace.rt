@@ -34,7 +34,9 @@ pub(crate) enum Note<'a> {
         is_done: bool,
     },
     /// A put took these bytes.
-    Received { bytes: &'a [u8] },
+    Received {
+        bytes: &'a [u8],
+    },
 }
 
 impl Trace {
