@@ -30,10 +30,10 @@ pub fn run_arguments<R: Wait + Threads + Sync, F: Files, K: Sink, E: Sink, G: Ga
     steps: &mut Steps<L>,
 ) -> u8
     ensures { EndsWithCode result given.now (record {
-        files = change (F.state files.old) (F.state files.new);
-        out = change (K.state out.old) (K.state out.new);
-        err = change (E.state err.old) (E.state err.new);
-        steps = change steps.old steps.new;
+      files = change (F.state files.old) (F.state files.new);
+      out = change (K.state out.old) (K.state out.new);
+      err = change (E.state err.old) (E.state err.new);
+      steps = change steps.old steps.new;
     }) }
 {
     match given {
@@ -59,10 +59,10 @@ pub fn run<'a, R: Wait + Threads + Sync, F: Files, K: Sink, E: Sink, G: Gate, L:
     steps: &mut Steps<L>,
 ) -> Status<'a>
     ensures { EndsSo (ending result) words.now (record {
-        files = change (F.state files.old) (F.state files.new);
-        out = change (K.state out.old) (K.state out.new);
-        err = change (E.state err.old) (E.state err.new);
-        steps = change steps.old steps.new;
+      files = change (F.state files.old) (F.state files.new);
+      out = change (K.state out.old) (K.state out.new);
+      err = change (E.state err.old) (E.state err.new);
+      steps = change steps.old steps.new;
     }) }
 {
     let _ = rt;
@@ -80,10 +80,10 @@ pub fn run_plain<'a, F: Files, K: Sink, E: Sink, L: Ledger>(
     steps: &mut Steps<L>,
 ) -> Status<'a>
     ensures { EndsSo (ending result) words.now (record {
-        files = change (F.state files.old) (F.state files.new);
-        out = change (K.state out.old) (K.state out.new);
-        err = change (E.state err.old) (E.state err.new);
-        steps = change steps.old steps.new;
+      files = change (F.state files.old) (F.state files.new);
+      out = change (K.state out.old) (K.state out.new);
+      err = change (E.state err.old) (E.state err.new);
+      steps = change steps.old steps.new;
     }) }
 {
     match read_request(words) {

@@ -445,10 +445,13 @@ build_of_located =
 -- nothing is read of a file that is not there
 build_of_nothing : EndsAmong (plan_of building) (files_at [] []) (files_at [] []) (read_fault (codes "r"))
 build_of_nothing = inl (
-  (refl, record {
-    stopped = record { bytes = []; gave = record { readings = []; given = refl; follow = tt; joined = refl }; count = omega arith };
-    cause = inr refl;
-  }),
+  (
+    refl,
+    record {
+      stopped = record { bytes = []; gave = record { readings = []; given = refl; follow = tt; joined = refl }; count = omega arith };
+      cause = inr refl;
+    },
+  ),
   only_reads [] [] [],
 )
 
@@ -742,6 +745,7 @@ faults_have_causes before after told none ended =
   where
     missing : Lacks (Some (contents_of located_alone)) (codes "b") → ⊥
     missing lacks = cc
+
     differ : read_fault (codes "b") ≡ no_memory → ⊥
     differ same = cc
 

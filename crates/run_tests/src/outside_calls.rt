@@ -1,8 +1,8 @@
 //! Calls of files and sinks, in memory and of the system.
 
 use outside::{
-    Failed, Files, Gate, HostFiles, HostSink, MemFiles, MemSink, NamedFile, OpenGate, Sink, WholeError,
-    names_differ, put_all, read_whole,
+    Failed, Files, Gate, HostFiles, HostSink, MemFiles, MemSink, NamedFile, OpenGate, Sink,
+    WholeError, names_differ, put_all, read_whole,
 };
 use owned_data::{List, Mem, Text};
 use std::alloc::Global;

@@ -1,10 +1,13 @@
 //! Whole runs over files and streams of the system.
 
+ghost use Rattle.std.specs.Io.{WritesAtMost};
+
 use crate::words::texts;
-use live_model::Mem;
-use obf_run::start;
+use live_model::{Mem, Text};
+use obf_run::{read_arguments, start};
 use run_model::Arguments;
 use std::alloc::Global;
+use std::env::FillError;
 use std::marker::Brand;
 use std::path::PathBuf;
 use std::process::Abort;
@@ -78,9 +81,20 @@ fn starts_over_the_system(rt: HostRuntime) -> Result<(), Fail> {
     check_start(&rt, &places, &dump, 3, "", line.as_str())?;
     let bad = "obf: the words are none of the ten forms\n";
     check_start(&rt, &places, &Arguments::NotText, 2, "", bad)?;
-    check_start(&rt, &places, &Arguments::NoMemory, 6, "", "obf: no memory\n")?;
+    check_start(
+        &rt,
+        &places,
+        &Arguments::NoMemory,
+        6,
+        "",
+        "obf: no memory\n",
+    )?;
     fs::write(&rt, base, "")?;
-    fs::write(&rt, output, "what stood there before, and is longer than the empty map file that comes into its place: more than 126 bytes of text that must all go")?;
+    fs::write(
+        &rt,
+        output,
+        "what stood there before, and is longer than the empty map file that comes into its place: more than 126 bytes of text that must all go",
+    )?;
     let build = words(alloc, &["build", base, base, output])?;
     check_start(&rt, &places, &build, 0, "base - - 0 0\n", "")?;
     assert_eq!(rt; fs::metadata(&rt, output)?.len(), 126);
@@ -90,5 +104,64 @@ fn starts_over_the_system(rt: HostRuntime) -> Result<(), Fail> {
     fs::remove_file(&rt, output)?;
     fs::remove_file(&rt, places.out.as_path())?;
     fs::remove_file(&rt, places.err.as_path())?;
+    Ok(())
+}
+
+// A program's name and two arguments, of which the second is these bytes.
+struct Two(&'static [u8]);
+
+fn copied(bytes: &[u8], buf: &mut [u8]) -> Result<usize, FillError>
+    ensures { WritesAtMost result buf.new }
+{
+    match buf.get_mut(..bytes.len()) {
+        Some(front) => {
+            front.copy_from_slice(bytes);
+            Ok(bytes.len())
+        }
+        None => Err(FillError::TooLong),
+    }
+}
+
+impl Env for Two {
+    fn arg(&self, i: usize, buf: &mut [u8]) -> Result<usize, FillError> {
+        match i {
+            0 => copied(b"obf", buf),
+            1 => copied(b"dump", buf),
+            2 => copied(self.0, buf),
+            _ => Err(FillError::NotPresent),
+        }
+    }
+
+    fn var(&self, _name: &str, _buf: &mut [u8]) -> Result<usize, FillError> {
+        Err(FillError::NotPresent)
+    }
+
+    fn var_at(&self, _i: usize, _buf: &mut [u8]) -> Result<usize, FillError> {
+        Err(FillError::NotPresent)
+    }
+}
+
+fn check_words<A: Abort>(rt: &A, words: &[Text]) {
+    match words {
+        [verb, file] => {
+            assert_eq!(rt; verb.as_str(), "dump");
+            assert_eq!(rt; file.as_str(), "a.opl");
+        }
+        _ => panic!(rt; "not two words"),
+    }
+}
+
+#[test]
+fn arguments_that_are_read(rt: HostRuntime) -> Result<(), Fail> {
+    match read_arguments(&(Two(b"a.opl"), rt.alloc())) {
+        Arguments::Words(words) => check_words(&rt, words.as_slice()),
+        _ => panic!(rt; "the words were not read"),
+    }
+    assert!(rt;
+        matches!(
+            read_arguments(&(Two(b"\xFFa.opl"), rt.alloc())),
+            Arguments::NotText
+        )
+    );
     Ok(())
 }
