@@ -1,5 +1,5 @@
 -- Files that were read and are good, and files at which a run ends.
-use Rattle.std.proofs.Common.{◌≡◌, ℕ, List, [], Option, Some, None, ap, arith, inl, inr, refl, subst}
+use Rattle.std.proofs.Common.{◌≡◌, ℕ, List, [], Option, None, ap, arith, inl, inr, refl, subst}
 use Rattle.std.specs.Option.{option_map}
 use Rattle.live_model.specs.declared.objects.Entity.{Entity}
 use Rattle.live_model.specs.declared.objects.Line.{Line}

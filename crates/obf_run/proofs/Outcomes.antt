@@ -1,5 +1,5 @@
 -- What was made of files that were read.
-use Rattle.std.proofs.Common.{◌≡◌, ℕ, List, [], ◌∷◌, Some, length, ap, refl, subst, ◌∙◌}
+use Rattle.std.proofs.Common.{◌≡◌, ℕ, List, [], ◌∷◌, length, ap, refl, subst, ◌∙◌}
 use Rattle.live_model.specs.declared.objects.Entity.{Entity}
 use Rattle.live_model.specs.declared.points.Rect.{Rect}
 use Rattle.live_model.specs.declared.rules.Rule.{Rule}

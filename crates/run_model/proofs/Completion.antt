@@ -1,18 +1,17 @@
 -- Where files are told and nothing failed, an ending with a cause is the one that is due.
-use Rattle.std.proofs.Common.{◌≡◌, ◌⊎◌, ◌≤◌, ◌<◌, ◌+◌, ◌-◌, ◌^◌, ℕ, List, [], ◌∷◌, length, Bool, true, false, Option, Some, None, ap, refl, sym, subst, ◌∙◌, inl, inr, arith, min}
+use Rattle.std.proofs.Common.{◌≡◌, ◌⊎◌, ◌≤◌, ◌<◌, ℕ, List, [], ◌∷◌, length, Bool, true, false, Option, Some, None, ap, refl, sym, subst, ◌∙◌, inl, inr, arith}
 use Rattle.std.specs.Prelude.{nat_lt, if◌then◌else◌}
 use Rattle.std.specs.Option.{option_map, option_or}
 use Rattle.std.proofs.lemmas.Bool.{le-ltb, lt-ltb}
 use Rattle.outside.specs.Faults.{Rose}
-use Rattle.outside.specs.Files.{Contents, FilesState, Lacks, OnlyReads}
+use Rattle.outside.specs.Files.{Contents, FilesState, Lacks}
 use Rattle.outside.specs.Sinks.{SinkState}
 use Rattle.outside.specs.Whole.{Exceeds, Tells}
 use Rattle.run_model.specs.declared.breaks.Break.{Break}
 use Rattle.run_model.specs.Endings.{Ending, done, bad_words, too_many_files, refused, misfit, read_fault, write_fault, answer_fault, no_memory, over_limit}
 use Rattle.run_model.specs.Inputs.{Input, Misfit, Plan, break_in, no_more, reads}
-use Rattle.run_model.specs.Jobs.{Outcome, Task, task_of}
+use Rattle.run_model.specs.Jobs.{Outcome, Task}
 use Rattle.run_model.specs.Reads.{EndsAmong, EndsAt, ReadInOrder, ReadsGood, limit}
-use Rattle.run_model.specs.Requests.{Asked, asked_by}
 use Rattle.run_model.specs.Runs.{AreTold, Caused, CausedBy, CausedWithin, Change, EndsAsTold, EndsWith, IsDue, IsDueAt, IsDueOver, IsDueWithin, IsNotWritten, IsTooLong, IsWrittenAs, NoFault, IsOutput, due_for, first_stop, names_too_many, stop_in, stop_or}
 
 -- One file.

@@ -1,12 +1,12 @@
 -- What stays after a run, by the cause of its ending.
-use Rattle.std.proofs.Common.{◌≡◌, ◌≤◌, ◌++◌, ◌∷◌, [], ℕ, List, Bool, true, false, Option, Some, None, refl, subst, sym, ◌∙◌, ap, inl, inr, arith}
+use Rattle.std.proofs.Common.{◌≡◌, ◌≤◌, ◌++◌, ◌∷◌, [], ℕ, List, Bool, true, false, Option, Some, None, subst, sym, ◌∙◌, ap, inl, inr, arith}
 use Rattle.outside.specs.Files.{Contents, FilesState, OnlyReads}
 use Rattle.outside.specs.Readings.{Writing, writing}
 use Rattle.outside.specs.Sinks.{SinkState}
 use Rattle.run_model.specs.Endings.{Ending, done, bad_words, too_many_files, refused, misfit, read_fault, write_fault, answer_fault, no_memory, over_limit}
 use Rattle.run_model.specs.Jobs.{Task, task_of}
 use Rattle.run_model.specs.Requests.{Asked}
-use Rattle.run_model.specs.Runs.{Caused, CausedBy, CausedByWords, CausedWithin, Change, ChangesOnly, Holds, IsNotWritten, IsOutput, IsUntouched, IsWritten, IsWrittenAs, Keeps, LosesOutput, WritesAtMost, WritesNothing, WritesOnly, changed_by, names_too_many, output_for}
+use Rattle.run_model.specs.Runs.{Caused, CausedByWords, CausedWithin, Change, ChangesOnly, Holds, IsNotWritten, IsOutput, IsUntouched, IsWrittenAs, Keeps, LosesOutput, WritesAtMost, WritesNothing, WritesOnly, changed_by, names_too_many, output_for}
 use Rattle.run_model.proofs.Causes.{too_long_same}
 use Rattle.run_model.proofs.Readings.{all_only, among_only, same_only}
 

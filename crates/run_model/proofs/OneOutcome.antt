@@ -1,14 +1,13 @@
 -- What a verb with an output makes of given texts is one outcome.
-use Rattle.std.proofs.Common.{◌≡◌, ℕ, List, [], ◌∷◌, length, Option, Some, None, ap, refl, sym, subst, ◌∙◌}
+use Rattle.std.proofs.Common.{◌≡◌, ℕ, List, [], ◌∷◌, ap, sym, subst, ◌∙◌}
 use Rattle.live_model.specs.declared.objects.Entity.{Entity}
 use Rattle.live_model.specs.declared.objects.Line.{Line}
 use Rattle.live_model.specs.declared.rules.Rule.{Rule}
 use Rattle.live_model.specs.Stores.{apply}
 use Rattle.live_model.proofs.TextReadings.{one_reading as one_text}
 use Rattle.tag_rules.proofs.RuleLaw.{one_reading as one_table}
-use Rattle.run_model.specs.Requests.{Asked, nodes, dump, build, check}
-use Rattle.run_model.specs.Jobs.{IsBuilt, IsPacked, IsStoreOf, Job, OneOutcomeLaw, Outcome, Parts, base_parts}
-use Rattle.run_model.specs.Inputs.{output_of}
+use Rattle.run_model.specs.Requests.{nodes, dump, build, check}
+use Rattle.run_model.specs.Jobs.{IsBuilt, IsPacked, IsStoreOf, OneOutcomeLaw, Outcome, Parts, base_parts}
 
 one_store : (text : List ℕ) (a b : List Entity) → IsStoreOf text a → IsStoreOf text b → a ≡ b
 one_store text a b one other = one.same ∙ (ap (λ (lines : List Line). apply [] lines) (one_text text one.lines other.lines one.spelled other.spelled) ∙ sym other.same)

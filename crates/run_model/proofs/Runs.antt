@@ -1,11 +1,11 @@
 -- All that is said of a run, from the cause of its ending and the line that was put.
-use Rattle.std.proofs.Common.{◌≡◌, ◌⊎◌, ℕ, List, Bool, true, false, Option, Some, None, refl, sym, subst, ◌∙◌, inl, inr}
-use Rattle.outside.specs.Files.{Contents, FilesState}
+use Rattle.std.proofs.Common.{◌≡◌, ◌⊎◌, ℕ, List, Bool, true, false, Option, Some, None, sym, subst, inl, inr}
+use Rattle.outside.specs.Files.{FilesState}
 use Rattle.outside.specs.Sinks.{SinkState}
 use Rattle.run_model.specs.Endings.{Ending, bad_words, too_many_files, no_memory, NamesFile}
 use Rattle.run_model.specs.Jobs.{Task, task_of}
 use Rattle.run_model.specs.Requests.{Asked, asked_by}
-use Rattle.run_model.specs.Runs.{CausedBy, CausedByWords, CausedWithin, Change, Completes, EndsSo, IsDue, IsUntouched, Keeps, NoFault, PutsLine, Run, names_too_many, output_for}
+use Rattle.run_model.specs.Runs.{CausedBy, CausedByWords, CausedWithin, Change, Completes, EndsSo, IsDue, IsUntouched, PutsLine, Run, names_too_many}
 use Rattle.run_model.proofs.Causes.{short_caused}
 use Rattle.run_model.proofs.Completion.{task_ends}
 use Rattle.run_model.proofs.Keeping.{words_keep}
