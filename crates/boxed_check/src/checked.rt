@@ -7,7 +7,7 @@ ghost use Rattle.boxed_check.specs.Keeping.{IsKept};
 
 use crate::kept::Kept;
 use crate::section::see_section;
-use crate::survey::survey;
+use crate::surveying::survey;
 use boxed_exact::{Around, CheckClass, check_exactly};
 use obf_wire::FileError;
 use std::alloc::Global;

@@ -14,9 +14,11 @@ mod kept;
 mod nodes;
 mod points;
 mod section;
-mod survey;
+mod surveying;
 mod texts;
 
 pub use checked::check;
 pub use kept::Kept;
 pub use points::points_in;
+pub use section::see_section;
+pub use surveying::survey;

@@ -23,7 +23,7 @@ const BLOCK: u8 = 22;
 const FEW: usize = 1_000_000_000_000_000;
 
 /// Reads a section in one pass. `Some` only where its form is good and all that has to hold of it holds.
-pub(crate) fn see_section<C: CheckClass>(
+pub fn see_section<C: CheckClass>(
     alloc: Global,
     bytes: &[u8],
     from: usize,

@@ -14,20 +14,20 @@ use Rattle.obf_wire.specs.Zigzag.{unzigzag}
 use Rattle.coord_delta.specs.Steps.{Place, places, places_from}
 use Rattle.file_grammar.specs.declared.parts.Boxed.TheVariants.{Map}
 use Rattle.file_grammar.specs.declared.parts.Part.TheVariants.{Block as BlockPart, Boxes, Record, Texts}
-use Rattle.file_grammar.specs.MapRules.{map_records_in, point_from}
+use Rattle.file_grammar.specs.MapRules.{map_boxing, map_records_in, point_from}
 use Rattle.file_grammar.specs.Messages.{Fields, ends, has_number, has_bytes, has_numbers, has_message}
 use Rattle.file_grammar.specs.Readings.{message_at, numbers_at, payload_of}
 use Rattle.file_grammar.specs.Sections.{Block, Entry, Placed, blocks_in, entries_from, messages_in, placed, section_in, step_of, text_of, texts_in}
 use Rattle.file_grammar.specs.Walks.{Standing, left_in, IsNext}
 use Rattle.file_grammar.proofs.Shaped.{AreTexts, shaped, are_texts}
-use Rattle.map_section.specs.declared.points.Step.{Step}
-use Rattle.map_section.specs.Blocks.{AreRecords}
+use Rattle.boxed_exact.specs.declared.points.Step.{Step}
+use Rattle.boxed_exact.specs.Records.{AreRecords}
 use Rattle.map_section.specs.Listed.{block_records, record_of, texts_held, texts_seen}
-use Rattle.map_section.specs.Numbers.{AreFew, StepsOn}
-use Rattle.map_section.specs.Pairs.{AreBlocks}
-use Rattle.map_section.proofs.BlockWalk.{held_block}
-use Rattle.map_section.proofs.NumberWalk.{at_place, no_places}
-use Rattle.map_section.proofs.RecordWalk.{held_record}
+use Rattle.boxed_exact.specs.Numbers.{AreFew, StepsOn}
+use Rattle.boxed_exact.specs.Pairs.{AreBlocks}
+use Rattle.boxed_exact.proofs.BlockWalk.{held_block}
+use Rattle.boxed_exact.proofs.NumberWalk.{at_place, no_places}
+use Rattle.boxed_exact.proofs.RecordWalk.{held_record}
 
 -- ---- the text of a number
 
@@ -132,7 +132,7 @@ listed_step block all (has_number at key value rest) start now new ordinal after
 listed_step block all (has_bytes at key bytes rest) start now new ordinal after s behind f are listed n is number more = absurd are
 listed_step block all (has_numbers at key values rest) start now new ordinal after s behind f are listed n is number more = absurd are
 listed_step block all (has_message at key inner rest) start now new ordinal after s behind f are listed n is number more =
-    let held = held_record s f inner is (n.1 ∙ are.0) n.2 in
+    let held = held_record Map s f inner is (n.1 ∙ are.0) n.2 in
     let others : List MapRec = behind_of block (ordinal + step_of inner) rest in
     record {
       rest = rest;
@@ -184,7 +184,7 @@ blocks_step all (has_message at key inner rest) now new s behind f are listed n 
       are = are.1;
       listed =
           listed ∙ sym (append_assoc now (block_records inner) (blocks_records rest))
-          ∙ ap (λ (records : List MapRec). records ++ blocks_records rest) (sym (more inner (held_block s f inner is (n.1 ∙ are.0) n.2)));
+          ∙ ap (λ (records : List MapRec). records ++ blocks_records rest) (sym (more inner (held_block Map map_boxing s f inner is (n.1 ∙ are.0) n.2)));
     }
 
 pub blocks_on : (all : Fields) (now new : List MapRec) (s behind : Standing) (f : Field) → BlocksListed all now s → ((fields : Fields) → left_in s ≡ Ok fields → IsNext s behind f fields) → s.part ≡ Boxes Map

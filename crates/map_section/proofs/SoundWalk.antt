@@ -22,19 +22,19 @@ use Rattle.file_grammar.specs.Sections.{Block, Entry, Placed, block_with, blocks
 use Rattle.file_grammar.specs.Walks.{IsNext, Standing, left_in}
 use Rattle.file_grammar.proofs.Earlier.{one_first_break_law}
 use Rattle.file_grammar.proofs.Shaped.{AreTexts, are_texts, shaped}
-use Rattle.map_section.specs.declared.points.Step.{Step}
-use Rattle.map_section.specs.Blocks.{AreRecords}
-use Rattle.map_section.specs.Fields.{HoldsInner}
+use Rattle.boxed_exact.specs.declared.points.Step.{Step}
+use Rattle.boxed_exact.specs.Records.{AreRecords}
+use Rattle.boxed_exact.specs.Fields.{HoldsInner}
 use Rattle.map_section.specs.Listed.{AreSoundEntries, AreUtf8, HoldsBlock, HoldsRecord, HoldsSection, HoldsSteps, HoldsTexts, IsSoundBlock, IsSoundRecord, LeavesBlocks, LeavesRecords}
-use Rattle.map_section.specs.Numbers.{StepsOn}
-use Rattle.map_section.specs.Pairs.{AreBlocks}
-use Rattle.map_section.proofs.BlockWalk.{IsSectionOf, held_block}
+use Rattle.boxed_exact.specs.Numbers.{StepsOn}
+use Rattle.boxed_exact.specs.Pairs.{AreBlocks}
+use Rattle.boxed_exact.proofs.BlockWalk.{IsSectionOf, held_block}
 use Rattle.boxed_laws.specs.Classes.{PassUtf8}
 use Rattle.boxed_laws.proofs.FittingRecords.{Holds, all_before, all_behind, texts_utf8}
 use Rattle.map_section.specs.MapLawful.{drawn_by}
-use Rattle.map_section.proofs.NumberWalk.{at_place}
+use Rattle.boxed_exact.proofs.NumberWalk.{at_place}
 use Rattle.boxed_laws.proofs.ObjectNumbers.{object_good, ordinal_again}
-use Rattle.map_section.proofs.RecordWalk.{IsBlockOf, block_of, held_record, held_texts}
+use Rattle.boxed_exact.proofs.RecordWalk.{IsBlockOf, block_of, held_record, held_texts}
 
 -- ---- what the rules say
 
@@ -89,7 +89,7 @@ section_sound beside fields few none =
     blocks_sound beside (section_in fields).blocks few (all_behind Holds _ (flat_map (block_facts map_boxing beside) (section_in fields).blocks) all)
 
 -- the blocks of a sound section
-pub section_leaves : (w : Window) (h : HoldsSection w) (s : IsSectionOf h.fields) (behind : Standing) → left_in behind ≡ Ok s.blocks → LeavesBlocks behind
+pub section_leaves : (w : Window) (h : HoldsSection w) (s : IsSectionOf Map map_boxing h.fields) (behind : Standing) → left_in behind ≡ Ok s.blocks → LeavesBlocks behind
 section_leaves w h s behind left = record {
   fields = s.blocks;
   left = left;
@@ -115,8 +115,8 @@ block_step (has_number at key value rest) s behind f part are sound n = absurd a
 block_step (has_bytes at key value rest) s behind f part are sound n = absurd are
 block_step (has_numbers at key value rest) s behind f part are sound n = absurd are
 block_step (has_message at key inner rest) s behind f part are sound n =
-    let read = held_block s f inner part (n.1 ∙ are.0) n.2 in
-    let first = first_block at (payload_of s.window.bytes f) inner (messages_in rest) (block_of (payload_of s.window.bytes f) inner read) read sound in
+    let read = held_block Map map_boxing s f inner part (n.1 ∙ are.0) n.2 in
+    let first = first_block at (payload_of s.window.bytes f) inner (messages_in rest) (block_of Map (payload_of s.window.bytes f) inner read) read sound in
     (first.0, record { fields = rest; left = n.3; are = are.1; sound = first.1 })
 
 -- the next of sound blocks, and those behind it
@@ -128,10 +128,10 @@ pub block_parts : (w : Window) (s behind : Standing) (place from to : ℕ) → s
     → ((at key : ℕ) (inner rest : Fields) → left_in s ≡ Ok (has_message at key inner rest) → (place ≡ at) × HoldsInner s from to key inner × (left_in behind ≡ Ok rest))
     → HoldsTexts (record { bytes = w.bytes; place = from; end = to }) × LeavesRecords 0 behind
 block_parts w s behind place from to is h next =
-    let b : IsBlockOf h.fields = block_of w h.fields h.read in
+    let b : IsBlockOf h.fields = block_of Map w h.fields h.read in
     let begins = subst (λ (s : Standing). left_in s ≡ Ok h.fields) (sym is) h.read in
     let n = next b.at 14 b.texts b.records (subst (λ (fields : Fields). left_in s ≡ Ok fields) b.is begins) in
-    let held = held_texts s from to b.texts (ap (λ (s : Standing). s.part) is) n.1 in
+    let held = held_texts Map s from to b.texts (ap (λ (s : Standing). s.part) is) n.1 in
     let sound = subst (λ (fields : Fields). IfSome (block_with 0 fields) IsSoundBlock) b.is h.sound in (
       record {
         fields = b.texts;
@@ -178,7 +178,7 @@ record_step before (has_number at key value rest) s behind f part are sound n = 
 record_step before (has_bytes at key value rest) s behind f part are sound n = absurd are
 record_step before (has_numbers at key value rest) s behind f part are sound n = absurd are
 record_step before (has_message at key inner rest) s behind f part are sound n =
-    (record { fields = inner; read = held_record s f inner part (n.1 ∙ are.0) n.2; sound = sound.0 }, record { fields = rest; left = n.3; are = are.1; sound = sound.1 })
+    (record { fields = inner; read = held_record Map s f inner part (n.1 ∙ are.0) n.2; sound = sound.0 }, record { fields = rest; left = n.3; are = are.1; sound = sound.1 })
 
 -- the next of sound records
 pub next_record : (before : ℕ) (s behind : Standing) (f : Field) → s.part ≡ BlockPart Map → LeavesRecords before s → ((fields : Fields) → left_in s ≡ Ok fields → IsNext s behind f fields)

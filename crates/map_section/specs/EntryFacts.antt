@@ -1,5 +1,5 @@
 -- The rules of a map record over what was read of it.
-use Rattle.std.specs.Prelude.{ℕ, List, [], ◌∷◌, Bool, true, false, ◌&&◌, ◌||◌, not, nat_lt, nat_le, ◌==◌, slice_get, Option, Some, None}
+use Rattle.std.specs.Prelude.{◌≡◌, ℕ, List, [], ◌∷◌, Bool, true, false, ◌&&◌, ◌||◌, not, nat_lt, nat_le, ◌==◌, slice_get, Option, Some, None}
 use Rattle.std.specs.Option.{option_map_or}
 use Rattle.obf_wire.specs.declared.file.FileKind.TheVariants.{BadOrder, BadId, BadRef, BadPoint, BadMark}
 use Rattle.file_grammar.specs.BoxRules.{Beside, is_marked, is_ordinal}
@@ -33,3 +33,13 @@ seen_facts beside texts before seen =
     ∷ fact seen.fields.name.at BadRef (nat_le seen.fields.name.value texts)
     ∷ fact seen.fields.points.at BadPoint (seen.points.on_grid && is_count_for seen.fields.shape.value seen.points.count)
     ∷ []
+
+-- the rules of a record that is good, but that its points are on the grid
+pub record IsGoodMap (beside : Beside) (texts : ℕ) (before : Option Key) (key : Key) (shape name count : ℕ) : Type 0 where
+  pub order : may_follow before key ≡ true
+  pub id : (is_ordinal key.ordinal && is_drawn_of shape key.ordinal) ≡ true
+  pub mark : is_marked beside.marks key.ordinal ≡ true
+  pub rule : option_map_or (draws shape) (slice_get beside.rules key.rule) false ≡ true
+  pub shape_is : nat_le shape 2 ≡ true
+  pub name_is : nat_le name texts ≡ true
+  pub count_is : is_count_for shape count ≡ true

@@ -12,18 +12,8 @@ use Rattle.file_grammar.specs.Sections.{Placed}
 use Rattle.file_grammar.specs.MapRules.{MapFields}
 use Rattle.file_grammar.specs.Walks.{Standing}
 use Rattle.map_section.specs.declared.entries.EntryFields.{EntryFields}
-use Rattle.map_section.specs.declared.fields.Number.{Number}
+use Rattle.boxed_exact.specs.declared.fields.Number.{Number}
 use Rattle.file_grammar.specs.Readings.{numbers_at}
-
--- these fields are the message that a field of this key holds, in a part of the bytes
-pub record HoldsInner (s : Standing) (from to key : ℕ) (inner : Fields) : Type 0 where
-  pub part : Part
-  pub content : content_of s.part key ≡ Some (Message part)
-  pub read : message_at part (record { bytes = s.window.bytes; place = from; end = to }) ≡ Ok inner
-
--- a text that may stand behind another one
-abbrev pub is_text_behind : List ℕ → List ℕ → Bool
-is_text_behind before text = (is_utf8 text && nat_lt 0 (length text)) && (is_lt (text_cmp before text) || not (is_utf8 before && is_utf8 text))
 
 -- the number is this one
 abbrev pub IsNumber : Number → Placed ℕ → Type 0

@@ -1,14 +1,9 @@
 pub mod Blocks
-pub mod Boxes
 pub mod EntryFacts
 pub mod Fields
 pub mod Listed
-pub mod Marked
-pub mod Pairs
-pub mod Sides
-pub mod Nodes
-pub mod Numbers
 pub mod MapOrder
 pub mod MapLawful
 pub mod Packed
 pub mod Laws
+pub mod MapReads

@@ -15,8 +15,8 @@ use Rattle.file_grammar.specs.Messages.{Fields}
 use Rattle.file_grammar.specs.Readings.{message_at, numbers_at}
 use Rattle.file_grammar.specs.Sections.{Block, Entry, Placed, block_with, blocks_in, entries_from, messages_in, section_in, step_of, texts_in}
 use Rattle.file_grammar.specs.Walks.{Standing, left_in}
-use Rattle.map_section.specs.Blocks.{AreRecords}
-use Rattle.map_section.specs.Pairs.{AreBlocks}
+use Rattle.boxed_exact.specs.Records.{AreRecords}
+use Rattle.boxed_exact.specs.Pairs.{AreBlocks}
 
 -- the texts that references point to
 abbrev pub texts_seen : List (Bor (List ℕ)) → List (List ℕ)

@@ -9,7 +9,7 @@ ghost use Rattle.file_grammar.specs.Readings.{message_at};
 ghost use Rattle.file_grammar.specs.Sections.{step_of};
 ghost use Rattle.map_section.specs.Fields.{IsRead};
 
-use crate::fields::{Number, Payload, next_number, next_payload};
+use boxed_exact::{Number, Payload, next_number, next_payload};
 use file_grammar::{Boxed, FieldWalk, Part};
 
 /// The fields of a map record: the step to its ordinal, the numbers of its rule, shape and name, and where

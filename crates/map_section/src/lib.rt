@@ -10,20 +10,12 @@
 //! in it is an error; `count` tells how many there are; and what is packed is of good form, sound, and read as the same records.
 #![tactic(auto)]
 
-mod blocks;
+mod checking;
 mod class;
-mod count;
-mod edges;
 mod entries;
-mod fields;
 mod laws;
 mod list;
-mod marks;
-mod nodes;
-mod points;
 mod record_rules;
-mod section;
-mod texts;
 mod writing;
 
 pub use class::MapClass;
@@ -31,5 +23,6 @@ pub use laws::{
     any_order_packs_the_same, ordinals_name_objects, packed_sections_are_good,
     packing_keeps_each_record, sound_sections_fit,
 };
-pub use section::{Section, form, sound};
+pub use list::Section;
+pub use record_rules::Key;
 pub use writing::write;

@@ -15,21 +15,26 @@ ghost use Rattle.file_grammar.specs.Messages.{Fields};
 ghost use Rattle.file_grammar.specs.Readings.{message_at, numbers_at};
 ghost use Rattle.file_grammar.specs.Sections.{Block as BlockOf, Entry, Placed, entries_from, messages_in, object_of, section_in, step_of, text_of, texts_in};
 ghost use Rattle.file_grammar.specs.Walks.{left_in};
-ghost use Rattle.map_section.specs.Blocks.{AreRecords};
+ghost use Rattle.boxed_exact.specs.Records.{AreRecords};
 ghost use Rattle.map_section.specs.Fields.{IsRead};
 ghost use Rattle.map_section.specs.Listed.{HoldsBlock, HoldsRecord, HoldsSection, HoldsSteps, HoldsTexts, LeavesBlocks, LeavesRecords, block_records, record_of, texts_held, texts_seen};
-ghost use Rattle.map_section.specs.Pairs.{AreBlocks};
+ghost use Rattle.boxed_exact.specs.Pairs.{AreBlocks};
 
 use crate::entries::{EntryFields, read_entry};
-use crate::fields::next_payload;
-use crate::points::{Step, next_step};
-use crate::section::Section;
+use boxed_exact::{Step, next_payload, next_step};
 use file_grammar::{Boxed, FieldWalk, Part};
 use live_model::{MapRec, ObjId, Point, Shape};
 use obf_wire::Field;
 use owned_data::{List, Mem, Text};
 use std::alloc::Global;
 use std::str::from_utf8;
+
+/// A section of map records that was found sound: where it stands in the bytes.
+#[derive(Clone, Copy, Debug, Drop)]
+pub struct Section {
+    pub from: usize,
+    pub to: usize,
+}
 
 impl Section {
     /// All records of a section that was found sound in these bytes, in the order of the file. No content of the

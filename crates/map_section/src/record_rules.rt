@@ -1,35 +1,29 @@
 //! What has to hold of a map record, rule by rule, in its block.
 
-ghost use Rattle.std.specs.Prelude.{◌≡◌, ◌&&◌, slice_get, true, false};
+ghost use Rattle.std.specs.Prelude.{◌≡◌, ◌≤◌, ◌&&◌, slice_get, true, false};
 ghost use Rattle.std.specs.Option.{option_map_or};
 ghost use Rattle.live_model.specs.Records.{is_map};
 ghost use Rattle.live_model.specs.Rules.{shape_rank};
-ghost use Rattle.file_grammar.specs.BoxRules.{is_node, is_ordinal, is_way};
+ghost use Rattle.file_grammar.specs.BoxRules.{is_ordinal};
 ghost use Rattle.file_grammar.specs.MapRules.{draws, is_count_for, is_drawn_of};
-ghost use Rattle.map_section.specs.EntryFacts.{may_follow, rises, seen_facts};
+ghost use Rattle.map_section.specs.EntryFacts.{IsGoodMap, may_follow, rises, seen_facts};
 ghost use Rattle.file_grammar.specs.Facts.{earlier, first_failing};
-ghost use Rattle.map_section.specs.Marked.{AreRising};
-ghost use Rattle.map_section.specs.Sides.{beside};
+ghost use Rattle.boxed_exact.specs.Sides.{AreRising, beside};
 
 use crate::entries::EntryFields;
-use crate::marks::is_marked;
-use crate::points::PointsSeen;
+use boxed_exact::{
+    Around, PointsSeen, has_mark, is_marked, is_node, is_ordinal, is_way,
+};
 use file_grammar::FirstBreak;
 use live_model::{Class, Rule, Shape};
-use obf_wire::{FileKind, Marks};
+use obf_wire::FileKind;
 use tag_rules::Rules;
-
-/// How far the ordinals of one kind of object lie from those of the next.
-const ORDINALS: u128 = 1_125_899_906_842_624;
-
-/// The greatest number of an object, as it stands in its ordinal.
-const LAST_NUMBER: u128 = 562_949_953_421_312;
 
 /// What the order of records goes by.
 #[derive(Clone, Copy, Debug)]
-pub(crate) struct Key {
-    pub(crate) ordinal: u128,
-    pub(crate) rule: u64,
+pub struct Key {
+    pub ordinal: u128,
+    pub rule: u64,
 }
 
 /// A record of a block as it was seen: the place of its message, its ordinal, its fields and its points.
@@ -41,15 +35,8 @@ pub(crate) struct EntrySeen {
     pub(crate) points: PointsSeen,
 }
 
-/// What there is beside the records of a section: the rules of the file, and the ordinals that may stand.
-#[derive(Clone, Copy)]
-pub(crate) struct Around<'a> {
-    pub(crate) rules: &'a Rules,
-    pub(crate) marks: Marks<'a>,
-}
-
-/// Asks the rules of a record behind another one, in a block with so many texts.
-pub(crate) fn ask_entry(
+/// Checks every rule of a record after another one, in a block of so many texts.
+pub(crate) fn check_entry(
     entry: &EntrySeen,
     before: Option<Key>,
     texts: usize,
@@ -90,20 +77,44 @@ pub(crate) fn ask_entry(
     );
 }
 
-// Whether the ordinal is one of an object that may have this shape.
+/// Whether every rule of a record is sure to hold, but that its points are on the grid.
+pub(crate) fn is_good(
+    around: &Around<'_>,
+    texts: usize,
+    before: Option<Key>,
+    key: Key,
+    shape: u64,
+    name: u64,
+    count: usize,
+) -> bool
+    requires marks { AreRising around.now.marks }
+    requires few { key.ordinal ≤ 18446744073709551615 }
+    ensures { result ≡ true → IsGoodMap (beside around.now) texts before key shape name count }
+{
+    may_follow(before, key)
+        && is_id(shape, key.ordinal)
+        && has_mark(around.marks, key.ordinal as u64)
+        && is_drawn_by(around.rules, key.rule, shape)
+        && shape <= 2
+        && name <= texts as u64
+        && is_count_for(shape, count)
+}
+
+/// Whether the ordinal is one of an object that may have this shape.
 fn is_id(shape: u64, ordinal: u128) -> bool
     ensures { result ≡ (is_ordinal ordinal && is_drawn_of shape ordinal) }
 {
     is_ordinal(ordinal) && is_drawn_of(shape, ordinal)
 }
 
-// Whether these may be the points of this shape.
+/// Whether these may be the points of this shape.
 fn are_points(shape: u64, points: PointsSeen) -> bool
     ensures { result ≡ (points.on_grid && is_count_for shape points.count) }
 {
     points.on_grid && is_count_for(shape, points.count)
 }
 
+/// Whether the record may stand after the one before it.
 fn may_follow(before: Option<Key>, key: Key) -> bool
     ensures { result ≡ may_follow before key }
 {
@@ -111,25 +122,6 @@ fn may_follow(before: Option<Key>, key: Key) -> bool
         None => true,
         Some(before) => rises(before, key),
     }
-}
-
-/// Whether the number is that of an object.
-pub(crate) fn is_ordinal(n: u128) -> bool
-    ensures { result ≡ is_ordinal n }
-{
-    n / ORDINALS <= 2 && n % ORDINALS <= LAST_NUMBER
-}
-
-fn is_node(n: u128) -> bool
-    ensures { result ≡ is_node n }
-{
-    n / ORDINALS == 0
-}
-
-fn is_way(n: u128) -> bool
-    ensures { result ≡ is_way n }
-{
-    n / ORDINALS == 1
 }
 
 /// Whether one record may stand behind another: rising by ordinal and rule, where both are of objects.

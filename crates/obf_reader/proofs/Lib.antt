@@ -7,3 +7,5 @@ pub mod MarkLists
 pub mod NumberLists
 pub mod RuleTexts
 pub mod Spread
+pub mod FileWalk
+pub mod Reads

@@ -3,7 +3,7 @@ use Rattle.std.proofs.Common.{◌≡◌, ℕ, List, [], ◌∷◌, ◌++◌, Ok,
 use Rattle.std.proofs.lemmas.List.{append-nil}
 use Rattle.obf_wire.specs.Fields.{Window}
 use Rattle.file_grammar.specs.Readings.{numbers_at}
-use Rattle.map_section.specs.Numbers.{Continues}
+use Rattle.boxed_exact.specs.Numbers.{Continues}
 
 -- of all numbers these were read, and the others stand from a place on
 pub record NumbersLeft (all read : List ℕ) (w : Window) : Type 0 where

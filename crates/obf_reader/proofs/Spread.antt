@@ -8,8 +8,8 @@ use Rattle.file_grammar.specs.Messages.{Fields}
 use Rattle.file_grammar.specs.Readings.{message_at}
 use Rattle.file_grammar.specs.Tables.{content_of}
 use Rattle.file_grammar.specs.Walks.{Standing}
-use Rattle.map_section.specs.Fields.{HoldsInner}
-use Rattle.obf_reader.specs.declared.fields.Payload.{Payload}
+use Rattle.boxed_exact.specs.Fields.{HoldsInner}
+use Rattle.boxed_exact.specs.declared.fields.Payload.{Payload}
 use Rattle.obf_reader.specs.Spread.{window_of}
 
 abbrev holds_part : Part → Option Content

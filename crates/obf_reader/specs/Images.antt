@@ -10,21 +10,25 @@ use Rattle.obf_wire.specs.Fields.{Window, IsWindow}
 use Rattle.file_grammar.specs.declared.parts.Boxed.TheVariants.{Map}
 use Rattle.file_grammar.specs.declared.parts.Part.TheVariants.{Boxes, File}
 use Rattle.file_grammar.specs.BoxRules.{is_ordinal}
-use Rattle.file_grammar.specs.Files.{FileParts, IsFile, file_break, file_in, head_numbers, rules_in, whole}
-use Rattle.file_grammar.specs.MapRules.{map_records_in}
+use Rattle.file_grammar.specs.Files.{FileParts, IsFile, beside, file_break, file_in, head_numbers, rules_in, whole}
+use Rattle.file_grammar.specs.MapRules.{map_boxing, map_records_in}
 use Rattle.file_grammar.specs.Messages.{Fields}
 use Rattle.file_grammar.specs.Readings.{message_at}
 use Rattle.file_grammar.specs.Sections.{section_in}
-use Rattle.map_section.specs.declared.section.Section.{Section}
+use Rattle.boxed_check.specs.declared.kept.Kept.{Kept}
+use Rattle.boxed_check.specs.Keeping.{IsKept}
+use Rattle.map_section.specs.declared.list.Section.{Section}
 use Rattle.obf_reader.specs.Heads.{IsHeadOf}
 
--- a file as its reader keeps it: marks are ordinals, the section of map records is where it stands, and so many records it has
+-- a file as its reader keeps it: marks are ordinals, the section of map records is where it stands, what its check left, and
+-- so many records it has
 pub record Seen : Type 0 where
   pub bytes : List ℕ
   pub head : Head
   pub rules : List Rule
   pub marks : List ℕ
   pub map : Section
+  pub kept : Kept
   pub records : ℕ
 
 -- the part of the bytes where the section of map records stands
@@ -47,6 +51,7 @@ pub record IsImageOf (bytes : List ℕ) (image : Seen) : Type 0 where
   pub marks : image.marks ≡ parts.marks.value
   pub map : message_at (Boxes Map) (record { bytes = bytes; place = image.map.from; end = image.map.to }) ≡ Ok parts.map
   pub inside : IsWindow (map_window image)
+  pub kept : IsKept Map map_boxing (beside parts) (record { bytes = bytes; place = image.map.from; end = image.map.to }) image.kept
   pub records : image.records ≡ length (map_records_in (section_in parts.map))
 
 -- what every image is: the image of bytes that break no rule

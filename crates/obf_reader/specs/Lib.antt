@@ -3,3 +3,5 @@ pub mod Images
 pub mod MarkLists
 pub mod Parts
 pub mod Spread
+pub mod Tops
+pub mod Reads

@@ -7,7 +7,7 @@ use Rattle.file_grammar.specs.Files.{FileParts, HeadNumbers, file_in, head_in, m
 use Rattle.file_grammar.specs.Messages.{Fields}
 use Rattle.file_grammar.specs.Readings.{message_at, numbers_at}
 use Rattle.file_grammar.specs.Sections.{placed}
-use Rattle.obf_reader.specs.declared.fields.Payload.{Payload}
+use Rattle.boxed_exact.specs.declared.fields.Payload.{Payload}
 use Rattle.obf_reader.specs.declared.heads.HeadNumbers.{HeadNumbers as HeadRead}
 use Rattle.obf_reader.specs.declared.spans.Spans.{Spans}
 

@@ -9,7 +9,7 @@ ghost use Rattle.obf_reader.specs.Spread.{HoldsHead, IsInBytes, seen_numbers};
 ghost use Rattle.live_model.specs.Levels.{level_number};
 ghost use Rattle.obf_reader.specs.Heads.{IsHeadOf};
 
-use crate::fields::{Payload, next_number};
+use boxed_exact::{Payload, next_number};
 use file_grammar::{FieldWalk, Part};
 use stamp_core::{Head, Level, Stamp};
 

@@ -1,32 +1,37 @@
 //! A map file that was read.
 
-ghost use Rattle.std.specs.Prelude.{◌≡◌, ◌==◌, None, Some, length, slice_get, true, IfErr, IfOk, MatchOption, Ok};
+ghost use Rattle.std.specs.Prelude.{◌≡◌, ◌==◌, None, Some, length, slice_get, true, IfErr, IfOk, IfSome, MatchOption, Ok};
 ghost use Rattle.std.specs.List.{list_all, list_any};
 ghost use Rattle.std.specs.Ordering.{nat_cmp};
 ghost use Rattle.live_model.specs.Ids.{ordinal};
 ghost use Rattle.live_model.specs.Ordered.{IsRisingBy};
 ghost use Rattle.stamp_core.specs.Heads.{IsGoodHead};
 ghost use Rattle.file_grammar.specs.declared.parts.Part.TheVariants.{Boxes, File};
-ghost use Rattle.file_grammar.specs.Files.{facts_in, file_break, file_in, whole};
+ghost use Rattle.file_grammar.specs.Files.{FileParts, facts_in, file_break, file_in, whole};
 ghost use Rattle.file_grammar.specs.declared.parts.Boxed.TheVariants.{Map};
 ghost use Rattle.file_grammar.specs.BoxRules.{is_ordinal, section_facts};
 ghost use Rattle.file_grammar.specs.Facts.{earlier, first_failing};
 ghost use Rattle.file_grammar.specs.MapRules.{map_boxing};
 ghost use Rattle.file_grammar.specs.Sections.{section_in};
-ghost use Rattle.map_section.specs.Marked.{AreRising, ordinals_of};
+ghost use Rattle.boxed_exact.specs.Breaks.{section_break as break_of_section};
+ghost use Rattle.boxed_exact.specs.Sides.{AreRising, beside, ordinals_of};
 ghost use Rattle.file_grammar.specs.Messages.{Fields};
 ghost use Rattle.file_grammar.specs.Readings.{IsInMemory, message_at};
 ghost use Rattle.map_section.specs.Listed.{HoldsSection};
 ghost use Rattle.obf_reader.specs.Images.{IsImage, IsImageFile, IsImageOf, map_window};
-ghost use Rattle.obf_reader.specs.Parts.{IsReadOf, beside_of, marks_of};
+ghost use Rattle.obf_reader.specs.Parts.{AreParts, IsReadOf, beside_of, marks_of, own_facts};
+ghost use Rattle.obf_reader.specs.Reads.{IsGoodRead, IsMapKept};
 ghost use Rattle.obf_reader.specs.Spread.{IsInBytes, window_of};
-ghost use Rattle.map_section.specs.Pairs.{Breaks};
+ghost use Rattle.boxed_exact.specs.Breaks.{Breaks};
 
 use crate::heads::head_of;
-use crate::parts::{PartsRead, ask_parts, read_parts};
+use crate::parts::{PartsRead, check_parts, read_parts};
+use crate::top::top_of;
 use file_grammar::{FirstBreak, Part, form};
 use live_model::ObjId;
-use map_section::{Section, sound};
+use boxed_check::{Kept, see_section, survey};
+use boxed_exact::{Around, check_exactly};
+use map_section::{MapClass, Section};
 use obf_wire::{FileBreak, FileError, Marks};
 use owned_data::{Mem, NoMemory};
 use stamp_core::Head;
@@ -43,7 +48,7 @@ pub struct Image {
     rules: Rules,
     marks: Vec<u64>,
     map: Section,
-    records: usize,
+    kept: Kept,
 }
 
 impl Model for Image {
@@ -51,46 +56,55 @@ impl Model for Image {
 
     ghost Value = { Seen };
 
-    ghost view = { λ image. record { bytes = image.bytes.items; head = image.head; rules = image.rules; marks = image.marks.items; map = image.map; records = image.records } };
+    ghost view = { λ image. record { bytes = image.bytes.items; head = image.head; rules = image.rules; marks = image.marks.items; map = image.map; kept = image.kept; records = image.kept.records } };
 
-    ghost invariant = { λ image. IsImage (record { bytes = image.bytes.items; head = image.head; rules = image.rules; marks = image.marks.items; map = image.map; records = image.records }) };
+    ghost invariant = { λ image. IsImage (record { bytes = image.bytes.items; head = image.head; rules = image.rules; marks = image.marks.items; map = image.map; kept = image.kept; records = image.kept.records }) };
 }
 
 impl Image {
     /// Reads a map file, and keeps its bytes. `Broken` with the first break exactly where the bytes are none,
-    /// unless memory was refused before.
+    /// unless memory was refused before. A good file is read once.
     pub fn read(alloc: Global, bytes: Vec<u8>) -> Result<Image, FileError>
+        ensures good { IfOk result (λ image. (file_break bytes.items ≡ None) × IsImageOf bytes.items image) }
+        ensures broken { IfErr result (λ error. Breaks error (file_break bytes.items)) }
+    {
+        let found = read_good(alloc, &bytes)?;
+        if let Some(file) = found {
+            return Ok(Image::of(bytes, file.parts, file.kept));
+        }
+        Image::read_exactly(alloc, bytes)
+    }
+
+    /// The same rule by rule, for the first break.
+    fn read_exactly(alloc: Global, bytes: Vec<u8>) -> Result<Image, FileError>
         ensures good { IfOk result (λ image. (file_break bytes.items ≡ None) × IsImageOf bytes.items image) }
         ensures broken { IfErr result (λ error. Breaks error (file_break bytes.items)) }
     {
         form(Part::File, &bytes, 0, bytes.len())?;
         let parts = read_parts(alloc, &bytes)?;
-        match first_break(alloc, &bytes, &parts)? {
-            None => Ok(Image::of(bytes, parts)),
-            Some(found) => Err(FileError::Broken(found)),
+        if let Some(found) = first_break(alloc, &bytes, &parts)? {
+            return Err(FileError::Broken(found));
         }
+        let kept = kept_of(alloc, &bytes, &parts)?;
+        Ok(Image::of(bytes, parts, kept))
     }
 
-    // The image of a file that breaks no rule.
-    fn of(bytes: Vec<u8>, parts: PartsRead) -> Image
-        requires sound { file_break bytes.items ≡ None }
-        requires marks { IsRisingBy nat_cmp (λ n. n) parts.marks.marks.items }
-        requires inside { IsInBytes bytes.items parts.map }
-        requires parts { (fields : Fields) → message_at File (whole bytes.items) ≡ Ok fields → IsReadOf bytes.items parts fields }
+    /// The image of a file that breaks no rule.
+    fn of(bytes: Vec<u8>, parts: PartsRead, kept: Kept) -> Image
+        requires { IsGoodRead bytes.items parts kept }
         ensures { IsImageOf bytes.items result }
     {
         let map = Section {
             from: parts.map.from,
             to: parts.map.to,
         };
-        let records = map.count(&bytes);
         Image {
             bytes,
             head: head_of(parts.head),
             rules: parts.rules.rules,
             marks: parts.marks.marks,
             map,
-            records,
+            kept,
         }
     }
 
@@ -151,7 +165,7 @@ impl Image {
     pub fn record_count(&self) -> usize
         ensures { result ≡ self.now.records }
     {
-        self.records
+        self.kept.records()
     }
 }
 
@@ -163,14 +177,14 @@ pub fn images_are_files(image: &Image)
     in_memory(image.bytes.as_slice());
 }
 
-// That bytes are fewer than 2^64, and each is one.
+/// That bytes are fewer than 2^64, and each is one.
 fn in_memory(bytes: &[u8])
     ensures { IsInMemory (whole bytes.now) }
 {
     let _ = bytes.len();
 }
 
-// The object of the mark at a place.
+/// The object of the mark at a place.
 fn object_at(marks: &[u64], index: usize) -> Option<ObjId>
     requires { list_all is_ordinal marks.now ≡ true }
     ensures { MatchOption result (slice_get marks.now index ≡ None) (λ id. slice_get marks.now index ≡ Some (ordinal id)) }
@@ -191,19 +205,19 @@ fn has(marks: &[u64], ordinal: u64) -> bool
     }
 }
 
-// The first break of a file of good form.
+/// The first break of a file of good form.
 fn first_break(alloc: Global, bytes: &[u8], parts: &PartsRead) -> Mem<Option<FileBreak>>
     requires inside { IsInBytes bytes.now parts.now.map }
     requires rising { IsRisingBy nat_cmp (λ n. n) parts.now.marks.marks.items }
     ensures { IfOk result (λ found. (fields : Fields) → IsReadOf bytes.now parts.now fields → found ≡ first_failing (facts_in (file_in fields))) }
 {
-    let mut first = ask_parts(parts);
+    let mut first = check_parts(parts);
     let found = section_break(alloc, bytes, parts)?;
     ask_found(&mut first, found);
     Ok(first.found())
 }
 
-// A break, where there is one, among those that were found before.
+/// A break, where there is one, among those that were found before.
 fn ask_found(first: &mut FirstBreak, found: Option<FileBreak>)
     ensures { first.new ≡ earlier first.old found }
 {
@@ -212,22 +226,88 @@ fn ask_found(first: &mut FirstBreak, found: Option<FileBreak>)
     }
 }
 
-// The first break of the section of map records.
+/// The first break of the section of map records.
 fn section_break(alloc: Global, bytes: &[u8], parts: &PartsRead) -> Mem<Option<FileBreak>>
     requires inside { IsInBytes bytes.now parts.now.map }
     requires rising { IsRisingBy nat_cmp (λ n. n) parts.now.marks.marks.items }
-    ensures { IfOk result (λ found. (fields : Fields) → message_at (Boxes Map) (window_of bytes.now parts.now.map) ≡ Ok fields → found ≡ first_failing (section_facts map_boxing (beside_of parts.now) (section_in fields))) }
+    ensures { IfOk result (λ found. found ≡ break_of_section Map map_boxing (beside_of parts.now) (window_of bytes.now parts.now.map)) }
 {
     let map = parts.map;
-    let marks = marks_beside(parts);
-    match sound(alloc, bytes, map.from, map.to, &parts.rules.rules, marks) {
+    let around = around_of(parts);
+    match check_exactly::<MapClass>(alloc, bytes, map.from, map.to, &around) {
         Ok(_) => Ok(None),
         Err(FileError::Broken(found)) => Ok(Some(found)),
         Err(FileError::NoMemory) => Err(NoMemory),
     }
 }
 
-// The ordinals that records may have: in a base, and beside marks that break a rule of their own, every one.
+/// What stands beside the section of map records.
+fn around_of(parts: &PartsRead) -> Around<'_>
+    requires { IsRisingBy nat_cmp (λ n. n) parts.now.marks.marks.items }
+    ensures beside { beside result ≡ beside_of parts.now }
+    ensures rising { AreRising result.marks }
+{
+    Around {
+        rules: &parts.rules.rules,
+        marks: marks_beside(parts),
+    }
+}
+
+/// What there is of the section of map records, of which every rule holds.
+fn kept_of(alloc: Global, bytes: &[u8], parts: &PartsRead) -> Mem<Kept>
+    requires inside { IsInBytes bytes.now parts.now.map }
+    requires sound { break_of_section Map map_boxing (beside_of parts.now) (window_of bytes.now parts.now.map) ≡ None }
+    ensures { IfOk result (IsMapKept bytes.now parts.now) }
+{
+    survey::<MapClass>(alloc, bytes, parts.map.from, parts.map.to)
+}
+
+/// A file that was read in one pass and found good.
+#[derive(Debug, Drop)]
+pub(crate) struct GoodFile {
+    pub(crate) parts: PartsRead,
+    pub(crate) kept: Kept,
+}
+
+/// Reads a file in one pass: `Some` only where it breaks no rule. `None` says nothing.
+fn read_good(alloc: Global, bytes: &[u8]) -> Mem<Option<GoodFile>>
+    ensures { IfOk result (λ found. IfSome found (λ file. IsGoodRead bytes.now file.parts file.kept)) }
+{
+    let Some(top) = top_of(bytes) else {
+        return Ok(None);
+    };
+    let parts = read_parts(alloc, bytes)?;
+    if parts.map.from != top.map.from || parts.map.to != top.map.to {
+        return Ok(None);
+    }
+    if !are_good(&parts) {
+        return Ok(None);
+    }
+    let found = see_map(alloc, bytes, &parts)?;
+    let Some(kept) = found else {
+        return Ok(None);
+    };
+    Ok(Some(GoodFile { parts, kept }))
+}
+
+/// Whether every rule holds of the parts outside the section of map records.
+fn are_good(parts: &PartsRead) -> bool
+    ensures { result ≡ true → (own : FileParts) → AreParts parts.now own → first_failing (own_facts own) ≡ None }
+{
+    check_parts(parts).found().is_none()
+}
+
+/// The section of map records in one pass.
+fn see_map(alloc: Global, bytes: &[u8], parts: &PartsRead) -> Mem<Option<Kept>>
+    requires inside { IsInBytes bytes.now parts.now.map }
+    requires rising { IsRisingBy nat_cmp (λ n. n) parts.now.marks.marks.items }
+    ensures { IfOk result (λ found. IfSome found (IsMapKept bytes.now parts.now)) }
+{
+    let around = around_of(parts);
+    see_section::<MapClass>(alloc, bytes, parts.map.from, parts.map.to, &around)
+}
+
+/// The ordinals that records may have: in a base, and beside marks that break a rule of their own, every one.
 fn marks_beside(parts: &PartsRead) -> Marks<'_>
     requires { IsRisingBy nat_cmp (λ n. n) parts.now.marks.marks.items }
     ensures ordinals { ordinals_of result ≡ marks_of parts.now }

@@ -9,7 +9,6 @@
 //! what an image tells is what its bytes hold.
 #![tactic(auto)]
 
-mod fields;
 mod heads;
 mod image;
 mod mark_list;
@@ -17,5 +16,6 @@ mod numbers;
 mod parts;
 mod rule_text;
 mod spans;
+mod top;
 
 pub use image::{Image, images_are_files};

@@ -2,7 +2,7 @@
 
 ghost use Rattle.std.specs.Prelude.{◌≡◌, ◌≤◌, ◌<◌, ℕ, List, [], Ok, length, IfOk, IfSome, MatchOption};
 ghost use Rattle.file_grammar.specs.Readings.{numbers_at};
-ghost use Rattle.map_section.specs.Numbers.{Continues};
+ghost use Rattle.boxed_exact.specs.Numbers.{Continues};
 
 use obf_wire::read_varint;
 use owned_data::Mem;

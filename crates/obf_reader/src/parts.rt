@@ -11,7 +11,7 @@ ghost use Rattle.file_grammar.specs.Readings.{message_at};
 ghost use Rattle.obf_reader.specs.Parts.{AreParts, IsReadOf, own_facts};
 ghost use Rattle.obf_reader.specs.Spread.{IsInBytes};
 
-use crate::fields::{Number, Payload};
+use boxed_exact::{Number, Payload};
 use crate::heads::{HeadNumbers, head_numbers, is_head};
 use crate::mark_list::{MarksRead, read_marks};
 use crate::rule_text::{RulesRead, read_rules};
@@ -55,7 +55,7 @@ pub(crate) fn read_parts(alloc: Global, bytes: &[u8]) -> Mem<PartsRead>
 }
 
 /// Asks all that has to hold of a file of good form outside its section of map records.
-pub(crate) fn ask_parts(read: &PartsRead) -> FirstBreak
+pub(crate) fn check_parts(read: &PartsRead) -> FirstBreak
     ensures { (parts : FileParts) → AreParts read.now parts → result ≡ first_failing (own_facts parts) }
 {
     let mut first = FirstBreak::none();

@@ -7,7 +7,7 @@ ghost use Rattle.file_grammar.specs.Messages.{Fields};
 ghost use Rattle.file_grammar.specs.Readings.{message_at};
 ghost use Rattle.obf_reader.specs.Spread.{AreInside, HoldsMarks, IsInBytes, IsSpread};
 
-use crate::fields::{Number, Payload, next_number, next_payload};
+use boxed_exact::{Number, Payload, next_number, next_payload};
 use file_grammar::{FieldWalk, Part};
 
 /// Where the parts of a file stand that are read, and the version at its end.

@@ -5,7 +5,7 @@ use Rattle.file_grammar.specs.declared.parts.Part.TheVariants.{Boxes}
 use Rattle.file_grammar.specs.Messages.{Fields}
 use Rattle.file_grammar.specs.Walks.{left_in}
 use Rattle.map_section.specs.Listed.{LeavesBlocks}
-use Rattle.map_section.specs.Pairs.{AreBlocks}
+use Rattle.boxed_exact.specs.Pairs.{AreBlocks}
 use Rattle.map_section.proofs.ListWalk.{BlocksListed}
 use Rattle.map_section.proofs.list.list_blocks.Given as goal
 

@@ -5,7 +5,7 @@ use Rattle.file_grammar.specs.declared.parts.Part.TheVariants.{Block as BlockPar
 use Rattle.file_grammar.specs.Messages.{Fields}
 use Rattle.file_grammar.specs.Sections.{Block}
 use Rattle.file_grammar.specs.Walks.{left_in}
-use Rattle.map_section.specs.Blocks.{AreRecords}
+use Rattle.boxed_exact.specs.Records.{AreRecords}
 use Rattle.map_section.specs.Listed.{LeavesRecords, texts_held, texts_seen}
 use Rattle.map_section.proofs.ListWalk.{RecordsListed}
 use Rattle.map_section.proofs.list.list_records.Given as goal

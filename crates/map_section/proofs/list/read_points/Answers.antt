@@ -1,7 +1,7 @@
 use Rattle.std.specs.Prelude.{pos, ◌+ℤ◌}
 use Rattle.obf_wire.specs.Fields.{Window}
 use Rattle.map_section.proofs.ListWalk.{points_all, points_on}
-use Rattle.map_section.proofs.NumberWalk.{at_place}
+use Rattle.boxed_exact.proofs.NumberWalk.{at_place}
 use Rattle.map_section.proofs.SoundWalk.{next_place, steps_behind}
 use Rattle.map_section.proofs.list.read_points.Goals as goal
 

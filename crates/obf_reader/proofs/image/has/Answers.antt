@@ -1,4 +1,4 @@
-use Rattle.map_section.proofs.MarkSearch.{absent}
+use Rattle.boxed_exact.proofs.MarkSearch.{absent}
 use Rattle.obf_reader.proofs.image.has.Goals as goal
 
 pub returns-in-Err : goal.returns-in-Err

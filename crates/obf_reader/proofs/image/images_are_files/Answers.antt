@@ -13,7 +13,8 @@ returns c =
       rules = c.image.inside.rules;
       marks = c.image.inside.marks.items;
       map = c.image.inside.map;
-      records = c.image.inside.records;
+      kept = c.image.inside.kept;
+      records = c.image.inside.kept.records;
     } in
     let memory = subst (λ (bytes : List ℕ). IsInMemory (whole bytes)) c.as_slice.ensures.value c.in_memory.ensures in
     subst IsImageFile c.image.view_is (file_of image c.image.invariant memory)

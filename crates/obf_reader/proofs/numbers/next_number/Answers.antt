@@ -1,4 +1,4 @@
-use Rattle.map_section.proofs.NumberWalk.{number_next}
+use Rattle.boxed_exact.proofs.NumberWalk.{number_next}
 use Rattle.obf_reader.proofs.numbers.next_number.Goals as goal
 
 pub returns-in-Ok-clause-number : goal.returns-in-Ok-clause-number
