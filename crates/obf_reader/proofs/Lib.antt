@@ -8,4 +8,4 @@ pub mod NumberLists
 pub mod RuleTexts
 pub mod Spread
 pub mod FileWalk
-pub mod Reads
+pub mod GoodFiles

@@ -9,7 +9,7 @@ ghost use Rattle.file_grammar.specs.Files.{mark_rises, rise_strictly, sums_from}
 ghost use Rattle.file_grammar.specs.Readings.{numbers_at};
 ghost use Rattle.obf_reader.specs.MarkLists.{IsMarksRead, rise_from};
 
-use crate::fields::Payload;
+use boxed_exact::Payload;
 use crate::numbers::read_numbers;
 use owned_data::Mem;
 use std::alloc::Global;

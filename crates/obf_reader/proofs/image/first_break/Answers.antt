@@ -7,7 +7,7 @@ use Rattle.file_grammar.specs.MapRules.{map_boxing}
 use Rattle.file_grammar.specs.Sections.{section_in}
 use Rattle.obf_reader.specs.Parts.{beside_of, own_facts}
 use Rattle.obf_reader.specs.Spread.{window_of}
-use Rattle.obf_reader.proofs.Reads.{formed}
+use Rattle.obf_reader.proofs.GoodFiles.{formed}
 use Rattle.obf_reader.proofs.Asked.{beside_are, first_of_both}
 use Rattle.obf_reader.proofs.image.first_break.Goals as goal
 

@@ -11,7 +11,7 @@ use Rattle.obf_reader.specs.Parts.{beside_of}
 use Rattle.obf_reader.specs.Spread.{window_of}
 use Rattle.obf_reader.proofs.Asked.{beside_are}
 use Rattle.obf_reader.proofs.Images.{IsSoundFile, some_rules, sound_file}
-use Rattle.obf_reader.proofs.Reads.{records_kept}
+use Rattle.obf_reader.proofs.GoodFiles.{records_kept}
 use Rattle.obf_reader.proofs.image.Image.of.Goals as goal
 
 pub invariant_of-result : goal.invariant_of-result

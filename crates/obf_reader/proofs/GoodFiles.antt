@@ -28,6 +28,7 @@ use Rattle.obf_reader.specs.Spread.{IsInBytes, window_of}
 use Rattle.obf_reader.specs.Reads.{IsGoodRead}
 use Rattle.obf_reader.specs.Tops.{HasForm}
 use Rattle.obf_reader.proofs.Asked.{beside_are, first_of_both}
+use Rattle.obf_reader.proofs.Images.{IsSoundFile, sound_file}
 
 -- where the form of the section is good, its break is that of its rules
 pub formed : (beside : Beside) (w : Window) (fields : Fields) → message_at (Boxes Map) w ≡ Ok fields → section_break Map map_boxing beside w ≡ first_failing (section_facts map_boxing beside (section_in fields))
@@ -111,3 +112,10 @@ good_read bytes read kept rising inside parts top own k =
       parts_are = parts;
       kept_is = k;
     }
+
+-- the same where nothing is known of the fields
+pub section_good : (bytes : List ℕ) (read : PartsRead) → ((fields : Fields) → message_at File (whole bytes) ≡ Ok fields → IsReadOf bytes read fields) → file_break bytes ≡ None
+    → section_break Map map_boxing (beside_of read) (window_of bytes read.map) ≡ None
+section_good bytes read parts none =
+    let f : IsSoundFile bytes = sound_file bytes none in
+    section_unbroken bytes read f.fields f.form (parts f.fields f.form) none
