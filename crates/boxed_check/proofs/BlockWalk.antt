@@ -1,8 +1,7 @@
 -- A block, its texts one after another, and its records.
-use Rattle.std.proofs.Common.{◌≡◌, ℕ, ◌+◌, ◌<◌, ◌≤◌, Bool, true, false, List, [], ◌∷◌, ◌++◌, length, map, flat_map, Option, Some, None, Result, Ok, refl, sym, ap, subst, ◌∙◌, arith}
+use Rattle.std.proofs.Common.{◌≡◌, ℕ, ◌+◌, ◌≤◌, Bool, true, false, List, [], ◌∷◌, ◌++◌, length, map, flat_map, Option, Some, None, Result, Ok, refl, sym, ap, subst, arith}
 use Rattle.std.specs.Prelude.{◌&&◌, ◌||◌, not, nat_le, nat_lt, slice_range}
 use Rattle.std.specs.List.{list_all}
-use Rattle.std.specs.Option.{option_map}
 use Rattle.std.specs.Ordering.{is_lt}
 use Rattle.std.specs.Str.{is_utf8}
 use Rattle.std.proofs.lemmas.Bool.{le-leb, lt-ltb}
@@ -14,13 +13,13 @@ use Rattle.obf_wire.specs.declared.file.FileBreak.{FileBreak}
 use Rattle.obf_wire.specs.Fields.{Window, IsWindow}
 use Rattle.file_grammar.specs.declared.parts.Boxed.{Boxed}
 use Rattle.file_grammar.specs.declared.parts.Part.TheVariants.{Block as BlockPart, Record, Texts}
-use Rattle.file_grammar.specs.BoxRules.{Beside, Boxing, block_facts, follows, holds_place, points_in, text_fact, texts_rise, with_before}
+use Rattle.file_grammar.specs.BoxRules.{Beside, Boxing, follows, holds_place, text_fact, texts_rise, with_before}
 use Rattle.file_grammar.specs.Facts.{AllHold, Fact}
 use Rattle.file_grammar.specs.Messages.{Fields, ends, has_bytes, has_message}
 use Rattle.file_grammar.specs.Readings.{message_at, message_from}
 use Rattle.file_grammar.specs.Sections.{Block, Entry, Placed, placed, texts_in}
 use Rattle.boxed_check.specs.Blocks.{AreRecordsSeen, AreTextsSeen, IsGoodBlock, IsTextBehind, RecordsLeft, TextsLeft, entries_left, text_before}
-use Rattle.obf_wire.specs.KnownKeys.{IsInside, StandsFirst}
+use Rattle.obf_wire.specs.KnownKeys.{StandsFirst}
 use Rattle.boxed_exact.specs.Records.{IsGoodRecord, entry_of}
 use Rattle.file_grammar.proofs.Built.{bytes_before, ends_there, message_before}
 
@@ -75,9 +74,10 @@ texts_on w before f count total window read behind l =
     record {
       fields = has_bytes f.at 10 text l.fields;
       read = bytes_before Texts (Some 10) w 10 f l.fields window refl refl read l.read;
-      facts = λ prev is.
-          (both _ _ (both _ _ behind.utf8 (not_empty before text behind.rises)) (text_follows prev (placed f.at text) (subst (λ (b : List ℕ). is_lt (text_cmp b text) ≡ true) (sym is) behind.rises)),
-          l.facts (Some (placed f.at text)) refl);
+      facts = λ prev is. (
+        both _ _ (both _ _ behind.utf8 (not_empty before text behind.rises)) (text_follows prev (placed f.at text) (subst (λ (b : List ℕ). is_lt (text_cmp b text) ≡ true) (sym is) behind.rises)),
+        l.facts (Some (placed f.at text)) refl,
+      );
       count_is = omega (arith, l.count_is);
     }
 
@@ -118,9 +118,10 @@ module _ {K : Type 0} (class : Boxed) (boxing : Boxing) (key_of : Entry → K) (
         block = block;
         is = refl;
         at_is = refl;
-        facts =
-            (both (nat_le 1 (length block.entries)) (nat_le (length block.entries) 64) (le-leb 1 (length block.entries) (omega (arith, counted, some))) (le-leb (length block.entries) 64 (omega (arith, counted, few))),
-            all_append (map text_fact (with_before None block.texts)) (flat_map (boxing.facts beside block) (with_before None block.entries)) (t.facts None refl) (r.facts block None (omega (arith, t.count_is)) refl));
+        facts = (
+          both (nat_le 1 (length block.entries)) (nat_le (length block.entries) 64) (le-leb 1 (length block.entries) (omega (arith, counted, some))) (le-leb (length block.entries) 64 (omega (arith, counted, few))),
+          all_append (map text_fact (with_before None block.texts)) (flat_map (boxing.facts beside block) (with_before None block.entries)) (t.facts None refl) (r.facts block None (omega (arith, t.count_is)) refl),
+        );
         points = r.points;
         count_is = counted;
       }

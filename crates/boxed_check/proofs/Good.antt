@@ -1,5 +1,5 @@
 -- What is kept of a section has no break.
-use Rattle.std.proofs.Common.{◌≡◌, Option, Some, None, Result, Ok, Err, refl, ap, ◌∙◌}
+use Rattle.std.proofs.Common.{◌≡◌, None, Result, Ok, Err, refl, ap, ◌∙◌}
 use Rattle.obf_wire.specs.declared.file.FileBreak.{FileBreak}
 use Rattle.obf_wire.specs.Fields.{Window}
 use Rattle.file_grammar.specs.declared.parts.Boxed.{Boxed}

@@ -1,5 +1,5 @@
 -- A node and those below it.
-use Rattle.std.proofs.Common.{◌≡◌, ℕ, zero, suc, ◌+◌, ◌<◌, ◌≤◌, Bool, true, false, List, [], ◌∷◌, ◌++◌, length, map, flat_map, Option, Some, None, Result, Ok, refl, sym, ap, subst, ◌∙◌, append_assoc, append-nil, arith}
+use Rattle.std.proofs.Common.{◌≡◌, ℕ, zero, suc, ◌+◌, ◌<◌, ◌≤◌, Bool, true, List, [], ◌∷◌, ◌++◌, length, map, flat_map, Option, Some, None, Result, Ok, refl, sym, ap, subst, ◌∙◌, append_assoc, append-nil, arith}
 use Rattle.std.specs.Prelude.{◌&&◌, filter_map, nat_le}
 use Rattle.std.specs.List.{list_all, cons_option}
 use Rattle.std.proofs.lemmas.Bool.{le-leb}
@@ -8,13 +8,13 @@ use Rattle.obf_wire.specs.declared.field.Field.{Field}
 use Rattle.obf_wire.specs.declared.file.FileBreak.{FileBreak}
 use Rattle.obf_wire.specs.Fields.{Window, IsWindow, is_among}
 use Rattle.file_grammar.specs.declared.parts.Content.{Content}
-use Rattle.file_grammar.specs.declared.parts.Content.TheVariants.{Number, Message}
+use Rattle.file_grammar.specs.declared.parts.Content.TheVariants.{Number}
 use Rattle.file_grammar.specs.declared.parts.Part.{Part}
 use Rattle.file_grammar.specs.declared.parts.Part.TheVariants.{Tree, Node}
 use Rattle.file_grammar.specs.BoxRules.{holds_box, is_box, node_facts}
 use Rattle.file_grammar.specs.Facts.{AllHold, Fact}
 use Rattle.file_grammar.specs.Messages.{Fields, ends, has_number, has_message}
-use Rattle.file_grammar.specs.Readings.{message_at, message_from}
+use Rattle.file_grammar.specs.Readings.{message_from}
 use Rattle.file_grammar.specs.Sections.{BoxNode, Placed, placed, messages_in, leaf_with, leaves_in, messages_within, node_in, nodes_in}
 use Rattle.file_grammar.specs.Sections.{Leaf as LeafOf}
 use Rattle.file_grammar.specs.Tables.{next_keys, may_end, content_of}
@@ -103,9 +103,9 @@ all_facts [] ys p q = q
 all_facts (x ∷ xs) ys p q =
     let parts = all_parts (node_facts x) (flat_map node_facts xs) p in
     all_append (node_facts x) (flat_map node_facts (xs ++ ys)) parts.0 (all_facts xs ys parts.1 q) where
-  all_parts : (a b : List Fact) → AllHold (a ++ b) → AllHold a × AllHold b
-  all_parts [] b p = (tt, p)
-  all_parts (f ∷ a) b p = let rest = all_parts a b p.1 in ((p.0, rest.0), rest.1)
+      all_parts : (a b : List Fact) → AllHold (a ++ b) → AllHold a × AllHold b
+      all_parts [] b p = (tt, p)
+      all_parts (f ∷ a) b p = let rest = all_parts a b p.1 in ((p.0, rest.0), rest.1)
 
 -- ---- nodes one after another
 

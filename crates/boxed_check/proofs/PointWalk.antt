@@ -1,18 +1,17 @@
 -- Numbers and points, each read before what stands behind it.
-use Rattle.std.proofs.Common.{◌≡◌, ◌≢◌, ℕ, ◌/◌, suc, ◌+◌, ◌-◌, ◌%◌, ◌<◌, ◌≤◌, Bool, true, false, List, [], ◌∷◌, length, Result, Ok, Err, refl, sym, ap, subst, ◌∙◌, arith}
-use Rattle.std.specs.Prelude.{◌==◌, ℤ, pos, negsuc, ◌+ℤ◌, int_le, not, ◌&&◌, ◌||◌}
-use Rattle.std.specs.List.{list_all}
-use Rattle.std.proofs.lemmas.Bool.{eq-eqb, ne_eqb, le-leb}
+use Rattle.std.proofs.Common.{◌≡◌, ◌≢◌, ℕ, ◌/◌, suc, ◌+◌, ◌-◌, ◌%◌, ◌<◌, ◌≤◌, Bool, true, List, [], ◌∷◌, length, Result, Ok, refl, ap, subst, ◌∙◌, arith}
+use Rattle.std.specs.Prelude.{◌==◌, ℤ, pos, ◌+ℤ◌, int_le, not, ◌&&◌, ◌||◌}
+use Rattle.std.proofs.lemmas.Bool.{ne_eqb, le-leb}
 use Rattle.std.proofs.lemmas.Int.{ints}
 use Rattle.live_model.specs.declared.points.Rect.{Rect}
-use Rattle.coord_delta.specs.Steps.{Place, places_from}
+use Rattle.coord_delta.specs.Steps.{Place}
 use Rattle.obf_wire.specs.declared.breaks.WireBreak.{WireBreak}
 use Rattle.obf_wire.specs.declared.file.FileBreak.{FileBreak}
 use Rattle.obf_wire.specs.Varint.{varint_at}
 use Rattle.obf_wire.specs.Fields.{Window, IsWindow}
 use Rattle.obf_wire.specs.Zigzag.{unzigzag}
 use Rattle.file_grammar.specs.BoxRules.{holds_place, is_on_grid}
-use Rattle.file_grammar.specs.Readings.{◌>>=◌, of_file, numbers_up_to, numbers_at}
+use Rattle.file_grammar.specs.Readings.{numbers_up_to, numbers_at}
 use Rattle.file_grammar.proofs.Inside.{number_inside}
 use Rattle.file_grammar.proofs.Lists.{list_fuel}
 use Rattle.boxed_check.specs.declared.points.Spot.{Spot}

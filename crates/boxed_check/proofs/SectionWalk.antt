@@ -1,9 +1,7 @@
 -- A section: its tree, then a block for each leaf.
-use Rattle.std.proofs.Common.{◌≡◌, ℕ, ◌+◌, ◌<◌, ◌≤◌, Bool, true, false, List, [], ◌∷◌, ◌++◌, length, map, flat_map, Option, Some, None, Result, Ok, refl, sym, ap, subst, ◌∙◌, length-append, append-nil, append_assoc, arith}
-use Rattle.std.specs.Prelude.{◌==◌, filter_map}
-use Rattle.std.specs.List.{list_all}
+use Rattle.std.proofs.Common.{◌≡◌, ℕ, ◌+◌, ◌≤◌, false, List, [], ◌∷◌, ◌++◌, length, map, flat_map, Option, Some, None, Result, Ok, refl, sym, ap, subst, ◌∙◌, length-append, append-nil, append_assoc, arith}
+use Rattle.std.specs.Prelude.{filter_map}
 use Rattle.std.proofs.lemmas.Bool.{eq-eqb}
-use Rattle.live_model.specs.declared.points.Rect.{Rect}
 use Rattle.obf_wire.specs.declared.field.Field.{Field}
 use Rattle.obf_wire.specs.declared.file.FileBreak.{FileBreak}
 use Rattle.obf_wire.specs.declared.file.FileKind.TheVariants.{BadPlace}
@@ -13,18 +11,18 @@ use Rattle.file_grammar.specs.declared.parts.Part.TheVariants.{Block as BlockPar
 use Rattle.file_grammar.specs.BoxRules.{Beside, Boxing, block_facts, first_place, leaf_facts, node_facts, paired_facts, section_facts}
 use Rattle.file_grammar.specs.Facts.{AllHold, Fact, fact}
 use Rattle.file_grammar.specs.Messages.{Fields, ends, has_message}
-use Rattle.file_grammar.specs.Readings.{message_at, message_from}
-use Rattle.file_grammar.specs.Sections.{Block, BoxNode, Placed, placed, block_with, leaves_in, messages_in, nodes_in, section_in}
+use Rattle.file_grammar.specs.Readings.{message_from}
+use Rattle.file_grammar.specs.Sections.{Block, BoxNode, Placed, placed, block_with, leaves_in, messages_in, nodes_in}
 use Rattle.file_grammar.specs.Sections.{Leaf as LeafOf}
 use Rattle.boxed_exact.specs.declared.edges.Edges.{Edges}
 use Rattle.boxed_exact.specs.declared.nodes.LeafSeen.{LeafSeen}
 use Rattle.boxed_check.specs.Blocks.{IsGoodBlock}
-use Rattle.obf_wire.specs.KnownKeys.{IsInside, StandsFirst}
+use Rattle.obf_wire.specs.KnownKeys.{StandsFirst}
 use Rattle.boxed_check.specs.Nodes.{IsGoodNode}
 use Rattle.boxed_exact.specs.Nodes.{shown}
 use Rattle.boxed_exact.specs.Boxes.{box_of}
 use Rattle.boxed_check.specs.Sections.{AreBlocksSeen, BeginsAt, BlocksLeft, IsGoodTree}
-use Rattle.boxed_check.specs.Keeping.{AreSpans, IsKept, IsSpan, blocks_of, entries_of}
+use Rattle.boxed_check.specs.Keeping.{AreSpans, IsKept, blocks_of, entries_of}
 use Rattle.boxed_check.specs.declared.kept.Kept.{Kept}
 use Rattle.boxed_exact.specs.declared.fields.Payload.{Payload}
 use Rattle.boxed_exact.specs.Pairs.{leaf_of}

@@ -1,5 +1,5 @@
 -- Where blocks stand, and how many records there are, block by block.
-use Rattle.std.proofs.Common.{◌≡◌, ℕ, suc, ◌+◌, ◌≤◌, List, [], ◌∷◌, ◌++◌, length, map, flat_map, filter_map, Option, Some, None, Result, Ok, Err, refl, sym, ap, subst, ◌∙◌, append_assoc, append-nil, length-append, arith}
+use Rattle.std.proofs.Common.{◌≡◌, ℕ, suc, ◌+◌, List, [], ◌∷◌, ◌++◌, length, map, filter_map, Option, Some, None, Ok, refl, sym, ap, subst, ◌∙◌, append_assoc, append-nil, length-append, arith}
 use Rattle.obf_wire.specs.declared.field.Field.{Field}
 use Rattle.obf_wire.specs.declared.file.FileBreak.{FileBreak}
 use Rattle.obf_wire.specs.Fields.{Window, IsWindow}
@@ -8,9 +8,9 @@ use Rattle.file_grammar.specs.declared.parts.Part.TheVariants.{Block as BlockPar
 use Rattle.file_grammar.specs.BoxRules.{Beside, Boxing, section_facts}
 use Rattle.file_grammar.specs.Facts.{AllHold}
 use Rattle.file_grammar.specs.Messages.{Fields, ends, has_number, has_bytes, has_numbers, has_message}
-use Rattle.file_grammar.specs.Readings.{message_at, payload_of}
+use Rattle.file_grammar.specs.Readings.{message_at}
 use Rattle.file_grammar.specs.Sections.{Block, Placed, block_with, entries_from, leaves_in, messages_in, section_in, step_of, texts_in}
-use Rattle.file_grammar.specs.Walks.{IsInside, IsNext, Standing, left_in}
+use Rattle.file_grammar.specs.Walks.{IsNext, Standing, left_in}
 use Rattle.boxed_exact.specs.declared.edges.Edges.{Edges}
 use Rattle.boxed_exact.specs.declared.fields.Payload.{Payload}
 use Rattle.boxed_exact.specs.declared.nodes.LeafSeen.{LeafSeen}
@@ -20,7 +20,7 @@ use Rattle.boxed_exact.specs.Records.{AreRecords}
 use Rattle.boxed_exact.proofs.BlockWalk.{IsSectionOf, held_block}
 use Rattle.boxed_exact.proofs.RecordWalk.{IsBlockOf, block_of}
 use Rattle.boxed_check.specs.declared.kept.Kept.{Kept}
-use Rattle.boxed_check.specs.Keeping.{AreSpans, IsKept, IsSpan, IsSurveyed, blocks_of, entries_of}
+use Rattle.boxed_check.specs.Keeping.{AreSpans, IsKept, IsSurveyed, blocks_of, entries_of}
 
 -- ---- records
 

@@ -1,5 +1,5 @@
 -- The records of a section, in the order of the file, and what has to hold of the bytes for that.
-use Rattle.std.specs.Prelude.{◌≡◌, ◌≤◌, ℕ, List, length, map, flat_map, None, Ok}
+use Rattle.std.specs.Prelude.{◌≡◌, ◌≤◌, List, length, map, flat_map, None, Ok}
 use Rattle.obf_wire.specs.Fields.{Window, IsWindow}
 use Rattle.file_grammar.specs.declared.parts.Boxed.{Boxed}
 use Rattle.file_grammar.specs.declared.parts.Part.TheVariants.{Boxes}

@@ -1,18 +1,14 @@
 -- Nodes of good form, of which all holds.
-use Rattle.std.specs.Prelude.{◌≡◌, ◌+◌, ◌<◌, ◌≤◌, ℕ, zero, suc, List, ◌++◌, length, map, flat_map, filter_map, true, Option, Some, None, Ok}
+use Rattle.std.specs.Prelude.{◌≡◌, ◌+◌, ◌≤◌, ℕ, zero, suc, List, ◌++◌, length, map, flat_map, true, Some, None, Ok}
 use Rattle.std.specs.List.{list_all}
 use Rattle.live_model.specs.declared.points.Rect.{Rect}
-use Rattle.obf_wire.specs.Fields.{Window, is_among}
-use Rattle.file_grammar.specs.declared.parts.Content.{Content}
-use Rattle.file_grammar.specs.declared.parts.Content.TheVariants.{Message}
+use Rattle.obf_wire.specs.Fields.{Window}
 use Rattle.file_grammar.specs.declared.parts.Part.{Part}
 use Rattle.file_grammar.specs.BoxRules.{holds_box, is_box, node_facts}
 use Rattle.file_grammar.specs.Facts.{AllHold}
 use Rattle.file_grammar.specs.Messages.{Fields, has_number}
 use Rattle.file_grammar.specs.Readings.{message_at, message_from}
 use Rattle.file_grammar.specs.Sections.{BoxNode, leaf_with, leaves_in, node_in, nodes_in}
-use Rattle.file_grammar.specs.Sections.{Leaf as LeafOf}
-use Rattle.file_grammar.specs.Tables.{next_keys, may_end, content_of}
 use Rattle.boxed_exact.specs.Nodes.{IsBelowPart, IsTreePart, nodes_below, nodes_within, shown}
 use Rattle.boxed_exact.specs.declared.edges.Edges.{Edges}
 use Rattle.boxed_check.specs.declared.nodes.Front.{Front}

@@ -2,7 +2,7 @@
 use Rattle.std.specs.Prelude.{◌≡◌, ◌<◌, ◌+◌, ◌==◌, ◌%◌, ◌≤◌, pos, ◌+ℤ◌, ℕ, List, length, true, Ok}
 use Rattle.std.specs.List.{list_all}
 use Rattle.live_model.specs.declared.points.Rect.{Rect}
-use Rattle.coord_delta.specs.Steps.{Place, places, places_from}
+use Rattle.coord_delta.specs.Steps.{Place, places_from}
 use Rattle.obf_wire.specs.Fields.{Window}
 use Rattle.obf_wire.specs.Varint.{varint_at}
 use Rattle.obf_wire.specs.Zigzag.{unzigzag}

@@ -1,20 +1,18 @@
 -- Sections of good form, of which all holds.
-use Rattle.std.specs.Prelude.{◌≡◌, ◌+◌, ◌<◌, ◌≤◌, ℕ, List, [], ◌∷◌, ◌++◌, length, map, flat_map, true, Some, Ok}
+use Rattle.std.specs.Prelude.{◌≡◌, ◌+◌, ℕ, List, [], ◌∷◌, ◌++◌, length, map, flat_map, Some, Ok}
 use Rattle.obf_wire.specs.Fields.{Window}
 use Rattle.file_grammar.specs.declared.parts.Boxed.{Boxed}
 use Rattle.file_grammar.specs.declared.parts.Part.TheVariants.{Boxes, Tree}
-use Rattle.file_grammar.specs.BoxRules.{Beside, Boxing, block_facts, node_facts, paired_facts, section_facts}
+use Rattle.file_grammar.specs.BoxRules.{Beside, Boxing, block_facts, node_facts, paired_facts}
 use Rattle.file_grammar.specs.Facts.{AllHold}
-use Rattle.file_grammar.specs.Messages.{Fields, ends}
+use Rattle.file_grammar.specs.Messages.{Fields}
 use Rattle.file_grammar.specs.Readings.{message_at, message_from}
-use Rattle.file_grammar.specs.Sections.{Block, Entry, blocks_in, leaves_in, messages_in, nodes_in, section_in}
-use Rattle.file_grammar.specs.Sections.{Leaf as LeafOf}
+use Rattle.file_grammar.specs.Sections.{Block, leaves_in, nodes_in}
 use Rattle.boxed_exact.specs.declared.nodes.LeafSeen.{LeafSeen}
 use Rattle.boxed_exact.specs.Nodes.{shown}
 use Rattle.boxed_exact.specs.Pairs.{leaf_of}
 use Rattle.boxed_exact.specs.declared.fields.Payload.{Payload}
 use Rattle.boxed_check.specs.Keeping.{AreSpans, blocks_of, entries_of}
-use Rattle.boxed_exact.specs.Boxes.{box_of}
 
 -- the window holds a good tree, and its leaves were added
 pub record IsGoodTree (w : Window) (before after : List LeafSeen) : Type 0 where

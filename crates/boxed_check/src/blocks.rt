@@ -12,6 +12,7 @@ use obf_wire::{Field, expected, expected_wide};
 
 /// The keys of the texts of a block, and of a record.
 const TEXTS: u8 = 14;
+
 const RECORD: u8 = 18;
 
 /// How many records a block has at most.

@@ -12,10 +12,15 @@ use owned_data::{Mem, NoMemory};
 
 /// The keys of the edges of a node, of the block offset of a leaf, and of a node below another.
 const LEFT: u8 = 8;
+
 const TOP: u8 = 16;
+
 const RIGHT: u8 = 24;
+
 const BOTTOM: u8 = 32;
+
 const PLACE: u8 = 40;
+
 const NODE: u8 = 54;
 
 /// How many nodes a node has below it at most.

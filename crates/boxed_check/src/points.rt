@@ -10,6 +10,7 @@ use obf_wire::number;
 
 /// The greatest x and the greatest y of a location, in units of 10^-7 degrees from the north-west corner.
 const WIDTH: u64 = 3_600_000_000;
+
 const HEIGHT: u64 = 1_800_000_000;
 
 /// Where steps lead, and the offset after the last of them.

@@ -17,6 +17,7 @@ use std::alloc::Global;
 
 /// The keys of the tree and of a block.
 const TREE: u8 = 14;
+
 const BLOCK: u8 = 22;
 
 /// More records than these are counted by no file.

@@ -21,12 +21,7 @@ use owned_data::{Mem, NoMemory};
 use std::alloc::Global;
 
 /// What a check leaves of a section of which every rule holds.
-pub fn survey<C: CheckClass>(
-    alloc: Global,
-    bytes: &[u8],
-    from: usize,
-    to: usize,
-) -> Mem<Kept>
+pub fn survey<C: CheckClass>(alloc: Global, bytes: &[u8], from: usize, to: usize) -> Mem<Kept>
     requires ordered { from ≤ to }
     requires within { to ≤ length bytes.now }
     ensures { IfOk result (λ kept. (beside : Beside) → section_break C.class C.boxing beside (record { bytes = bytes.now; place = from; end = to }) ≡ None

@@ -118,7 +118,7 @@ module _ {K : Type 0} (class : Boxed) (boxing : Boxing) (key_of : Entry → K) (
   pub records_on : (all : Fields) (start now new : Option FileBreak) (ordinal next texts : ℕ) (before : Option K) (key : K) (seen : BlockSeen) (more : Bool) (s behind : Standing) (f : Field)
       → RecordsLeft all start now ordinal before seen s → s.part ≡ BlockPart class → ((fields : Fields) → left_in s ≡ Ok fields → IsNext s behind f fields) → length block.texts ≡ texts
       → ((fields : Fields) (block : Block) (prev : Option Entry) → message_at (Record class) (payload_of s.window.bytes f) ≡ Ok fields → length block.texts ≡ texts → option_map key_of prev ≡ before
-        → IsRecordChecked boxing key_of beside holder block prev (record { at = f.at; ordinal = ordinal + step_of fields; fields = fields }) now new next key more)
+      → IsRecordChecked boxing key_of beside holder block prev (record { at = f.at; ordinal = ordinal + step_of fields; fields = fields }) now new next key more)
       → RecordsLeft all start new next (Some key) (record { count = seen.count + 1; in_box = seen.in_box && more }) behind
   records_on all start now new ordinal next texts before key seen more s behind f l is next_is is_texts see =
       records_step all start now new ordinal next key seen more s behind f l.prev l.rest l.are l.asked l.count l.in_box is (next_is l.rest l.left) (λ fields e. see fields block l.prev e is_texts l.key)

@@ -1,5 +1,5 @@
 -- The first break of a section.
-use Rattle.std.specs.Prelude.{◌≡◌, Option, Some, None, Result, Ok, Err}
+use Rattle.std.specs.Prelude.{◌≡◌, Option, Some, Result, Ok, Err}
 use Rattle.obf_wire.specs.declared.file.FileBreak.{FileBreak}
 use Rattle.obf_wire.specs.declared.file.FileError.{FileError}
 use Rattle.obf_wire.specs.declared.file.FileError.TheVariants.{NoMemory, Broken}

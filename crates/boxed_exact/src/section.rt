@@ -162,7 +162,12 @@ fn check_paired<C: CheckClass>(
     }
 }
 
-fn check_without_leaf<C: CheckClass>(bytes: &[u8], span: Payload, around: &Around<'_>, first: &mut FirstBreak)
+fn check_without_leaf<C: CheckClass>(
+    bytes: &[u8],
+    span: Payload,
+    around: &Around<'_>,
+    first: &mut FirstBreak,
+)
     requires marks { AreRising around.now.marks }
     requires ordered { span.from ≤ span.to }
     requires within { span.to ≤ length bytes.now }

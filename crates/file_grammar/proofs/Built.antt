@@ -12,7 +12,7 @@ use Rattle.file_grammar.specs.declared.parts.Content.{Content}
 use Rattle.file_grammar.specs.declared.parts.Content.TheVariants.{Number, Bytes, Numbers, Message}
 use Rattle.file_grammar.specs.Tables.{group_size, next_keys, may_end, content_of}
 use Rattle.file_grammar.specs.Messages.{Fields, ends, has_number, has_bytes, has_numbers, has_message}
-use Rattle.file_grammar.specs.Readings.{◌>>=◌, of_file, payload_of, numbers_at, groups_at, in_groups, filled, continued, message_from, message_at}
+use Rattle.file_grammar.specs.Readings.{payload_of, numbers_at, filled, message_from, message_at}
 use Rattle.file_grammar.proofs.Fuel.{turn}
 use Rattle.obf_wire.specs.KnownKeys.{IsExpected, StandsFirst}
 

@@ -6,7 +6,7 @@ use Rattle.file_grammar.specs.declared.parts.Boxed.TheVariants.{Map}
 use Rattle.file_grammar.specs.declared.parts.Part.{Part}
 use Rattle.file_grammar.specs.declared.parts.Part.TheVariants.{File, Head, Boxes, NoAddresses, NoRoads, Nothing, Marks}
 use Rattle.file_grammar.specs.declared.parts.Content.{Content}
-use Rattle.file_grammar.specs.declared.parts.Content.TheVariants.{Number, Version, Bytes, Numbers, Message}
+use Rattle.file_grammar.specs.declared.parts.Content.TheVariants.{Version, Bytes, Message}
 use Rattle.file_grammar.specs.Tables.{next_keys, may_end, content_of}
 use Rattle.file_grammar.specs.Messages.{Fields, ends, has_number, has_bytes, has_numbers, has_message}
 use Rattle.file_grammar.specs.Readings.{message_at}

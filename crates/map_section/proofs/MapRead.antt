@@ -1,6 +1,6 @@
 -- A map record, field by field.
-use Rattle.std.proofs.Common.{◌≡◌, ℕ, ◌+◌, ◌%◌, ◌≤◌, Bool, true, false, List, length, Option, Some, None, Result, Ok, refl, sym, ap, subst, ◌∙◌, arith}
-use Rattle.std.specs.Prelude.{◌==◌, ◌&&◌, nat_le}
+use Rattle.std.proofs.Common.{◌≡◌, ℕ, ◌+◌, Bool, true, length, Option, Some, None, Result, Ok, refl, sym, ap, subst, ◌∙◌, arith}
+use Rattle.std.specs.Prelude.{◌&&◌, nat_le}
 use Rattle.std.specs.Option.{option_map}
 use Rattle.live_model.specs.declared.points.Rect.{Rect}
 use Rattle.coord_delta.specs.Steps.{places}
@@ -15,7 +15,7 @@ use Rattle.file_grammar.specs.BoxRules.{Beside, follows}
 use Rattle.file_grammar.specs.MapRules.{entries_rise, map_boxing}
 use Rattle.file_grammar.specs.Messages.{Fields, ends, has_number, has_numbers}
 use Rattle.file_grammar.specs.Readings.{message_from}
-use Rattle.file_grammar.specs.Sections.{Block, Entry}
+use Rattle.file_grammar.specs.Sections.{Entry}
 use Rattle.file_grammar.proofs.Built.{ends_there, number_before, numbers_before}
 use Rattle.boxed_exact.specs.Records.{IsGoodRecord, entry_of}
 use Rattle.boxed_check.specs.Points.{ArePointsSeen}
@@ -75,8 +75,9 @@ record_is beside holder before texts from at count ordinal w r key read points i
       read = read.read points.numbers points.read points.pairs;
       ordinal_is = is_ordinal;
       key_is = here;
-      facts = λ block prev is_texts is_before.
-          (in_order prev (entry_of from at fields) (subst (λ (b : Option Key). may_follow b (key_of (entry_of from at fields)) ≡ true) (sym is_before) g.order),
-          (g.id, (g.mark, (g.rule, (g.shape_is, (subst (λ (n : ℕ). nat_le r.name n ≡ true) (sym is_texts) g.name_is, (both _ _ points.on_grid g.count_is, tt)))))));
+      facts = λ block prev is_texts is_before. (
+        in_order prev (entry_of from at fields) (subst (λ (b : Option Key). may_follow b (key_of (entry_of from at fields)) ≡ true) (sym is_before) g.order),
+        (g.id, (g.mark, (g.rule, (g.shape_is, (subst (λ (n : ℕ). nat_le r.name n ≡ true) (sym is_texts) g.name_is, (both _ _ points.on_grid g.count_is, tt)))))),
+      );
       points = points.in_box;
     }

@@ -1,28 +1,17 @@
 -- The rules of a map record, by what was seen of it.
-use Rattle.std.proofs.Common.{◌≡◌, ℕ, ◌+◌, Bool, true, false, List, [], ◌∷◌, ◌++◌, length, flat_map, Option, Some, None, Ok, refl, sym, ap, subst, ◌∙◌, arith}
+use Rattle.std.proofs.Common.{◌≡◌, ℕ, Bool, false, List, [], ◌∷◌, length, Option, Some, None, refl, sym, ap, ◌∙◌}
 use Rattle.std.specs.Prelude.{◌&&◌, nat_le, slice_get}
 use Rattle.std.specs.List.{list_all}
 use Rattle.std.specs.Option.{option_map, option_map_or}
 use Rattle.live_model.specs.declared.points.Rect.{Rect}
-use Rattle.obf_wire.specs.declared.field.Field.{Field}
 use Rattle.obf_wire.specs.declared.file.FileBreak.{FileBreak}
-use Rattle.obf_wire.specs.declared.file.FileKind.{FileKind}
 use Rattle.obf_wire.specs.declared.file.FileKind.TheVariants.{BadOrder, BadId, BadRef, BadPoint, BadMark}
-use Rattle.coord_delta.specs.Steps.{Place, places}
-use Rattle.file_grammar.specs.declared.parts.Boxed.TheVariants.{Map}
-use Rattle.file_grammar.specs.declared.parts.Content.{Content}
-use Rattle.file_grammar.specs.declared.parts.Content.TheVariants.{Message}
-use Rattle.file_grammar.specs.declared.parts.Part.{Part}
-use Rattle.file_grammar.specs.declared.parts.Part.TheVariants.{Block as BlockPart, Record, Texts}
-use Rattle.file_grammar.specs.BoxRules.{Beside, follows, holds_place, is_marked, is_on_grid, is_ordinal, with_before}
+use Rattle.coord_delta.specs.Steps.{places}
+use Rattle.file_grammar.specs.BoxRules.{Beside, follows, is_marked, is_on_grid, is_ordinal}
 use Rattle.file_grammar.specs.Facts.{Fact, fact, earlier, failing, first_failing}
 use Rattle.file_grammar.specs.MapRules.{MapFields, draws, entries_rise, is_count_for, is_drawn_of, map_boxing, map_facts, map_fields}
-use Rattle.file_grammar.specs.Messages.{Fields, ends, has_number, has_bytes, has_numbers, has_message}
-use Rattle.file_grammar.specs.Readings.{message_at, payload_of}
-use Rattle.file_grammar.specs.Sections.{Placed, Block, Entry, entries_from, messages_in, step_of}
-use Rattle.file_grammar.specs.Tables.{content_of}
-use Rattle.file_grammar.specs.Walks.{Standing, left_in, IsNext, HoldsMessage}
-use Rattle.file_grammar.proofs.Earlier.{and_before, and_last, and_more, and_one, earlier_joined, earlier_none, first_joined}
+use Rattle.file_grammar.specs.Sections.{Placed, Block, Entry}
+use Rattle.file_grammar.proofs.Earlier.{and_last, and_one}
 use Rattle.boxed_exact.specs.declared.fields.Number.{Number}
 use Rattle.map_section.specs.declared.record_rules.EntrySeen.{EntrySeen}
 use Rattle.map_section.specs.declared.record_rules.Key.{Key}
@@ -30,8 +19,6 @@ use Rattle.map_section.specs.Blocks.{AreFieldsSeen, IsSeen, key_seen}
 use Rattle.boxed_exact.specs.Records.{IsRecordChecked}
 use Rattle.map_section.specs.EntryFacts.{key_of, may_follow, seen_facts}
 use Rattle.map_section.specs.Fields.{IsNumber}
-use Rattle.obf_wire.specs.Fields.{Window}
-use Rattle.file_grammar.proofs.Shaped.{AreMessages, BeginsMessage, are_messages, begins_message, shaped}
 
 -- seven facts, asked one after another
 pub asked_seven : (start a b c d e f new : Option FileBreak) (one two three four five six seven : Fact) → a ≡ earlier start (failing one) → b ≡ earlier a (failing two) → c ≡ earlier b (failing three) → d ≡ earlier c (failing four)

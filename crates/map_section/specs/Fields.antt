@@ -1,16 +1,7 @@
 -- What stands in fields that were read.
-use Rattle.std.specs.Prelude.{◌≡◌, ℕ, List, Bool, ◌&&◌, ◌||◌, not, nat_lt, length, Some, Ok}
-use Rattle.std.specs.Ordering.{is_lt}
-use Rattle.std.specs.Str.{is_utf8}
-use Rattle.text_table.specs.Tables.{text_cmp}
-use Rattle.file_grammar.specs.declared.parts.Part.{Part}
-use Rattle.file_grammar.specs.declared.parts.Content.TheVariants.{Message}
-use Rattle.file_grammar.specs.Messages.{Fields}
-use Rattle.file_grammar.specs.Readings.{message_at}
-use Rattle.file_grammar.specs.Tables.{content_of}
+use Rattle.std.specs.Prelude.{◌≡◌, ℕ, List, Ok}
 use Rattle.file_grammar.specs.Sections.{Placed}
 use Rattle.file_grammar.specs.MapRules.{MapFields}
-use Rattle.file_grammar.specs.Walks.{Standing}
 use Rattle.map_section.specs.declared.entries.EntryFields.{EntryFields}
 use Rattle.boxed_exact.specs.declared.fields.Number.{Number}
 use Rattle.file_grammar.specs.Readings.{numbers_at}

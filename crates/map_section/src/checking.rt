@@ -25,9 +25,13 @@ use obf_wire::{Field, expected};
 
 /// The keys of a map record: the step to its ordinal, its rule, its shape, its name, and the steps from point to point.
 const STEP: u8 = 8;
+
 const RULE: u8 = 16;
+
 const SHAPE: u8 = 24;
+
 const NAME: u8 = 32;
+
 const POINTS: u8 = 42;
 
 /// No ordinal of an object lies farther above another one.

@@ -11,9 +11,7 @@ ghost use Rattle.file_grammar.specs.Facts.{earlier, first_failing};
 ghost use Rattle.boxed_exact.specs.Sides.{AreRising, beside};
 
 use crate::entries::EntryFields;
-use boxed_exact::{
-    Around, PointsSeen, has_mark, is_marked, is_node, is_ordinal, is_way,
-};
+use boxed_exact::{Around, PointsSeen, has_mark, is_marked, is_node, is_ordinal, is_way};
 use file_grammar::FirstBreak;
 use live_model::{Class, Rule, Shape};
 use obf_wire::FileKind;

@@ -1,5 +1,5 @@
 -- A file, field by field.
-use Rattle.std.proofs.Common.{◌≡◌, ℕ, ◌≤◌, Bool, true, false, List, [], ◌∷◌, length, Option, Some, None, Result, Ok, Err, refl, sym, ap, subst, ◌∙◌, arith}
+use Rattle.std.proofs.Common.{◌≡◌, ℕ, true, false, List, [], ◌∷◌, length, Option, Some, None, Result, Ok, Err, refl, sym, subst, ◌∙◌, arith}
 use Rattle.std.specs.Prelude.{◌==◌, slice_range}
 use Rattle.obf_wire.specs.declared.breaks.WireBreak.{WireBreak}
 use Rattle.obf_wire.specs.declared.field.Field.{Field}
@@ -10,9 +10,9 @@ use Rattle.file_grammar.specs.declared.parts.Content.{Content}
 use Rattle.file_grammar.specs.declared.parts.Content.TheVariants.{Number, Version, Bytes, Message}
 use Rattle.file_grammar.specs.declared.parts.Part.{Part}
 use Rattle.file_grammar.specs.declared.parts.Part.TheVariants.{Boxes, File, Head, Marks, NoAddresses, NoRoads, Nothing}
-use Rattle.file_grammar.specs.Files.{FileParts, file_in, whole}
+use Rattle.file_grammar.specs.Files.{whole}
 use Rattle.file_grammar.specs.Messages.{Fields, ends, has_number, has_bytes, has_message}
-use Rattle.file_grammar.specs.Readings.{◌>>=◌, of_file, break_in, payload_of, filled, continued, message_from, message_at}
+use Rattle.file_grammar.specs.Readings.{break_in, payload_of, filled, message_from, message_at}
 use Rattle.file_grammar.specs.Tables.{next_keys, may_end, content_of}
 use Rattle.file_grammar.proofs.Fuel.{turn}
 use Rattle.obf_wire.specs.KnownKeys.{IsInside}

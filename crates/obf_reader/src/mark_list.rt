@@ -9,8 +9,8 @@ ghost use Rattle.file_grammar.specs.Files.{mark_rises, rise_strictly, sums_from}
 ghost use Rattle.file_grammar.specs.Readings.{numbers_at};
 ghost use Rattle.obf_reader.specs.MarkLists.{IsMarksRead, rise_from};
 
-use boxed_exact::Payload;
 use crate::numbers::read_numbers;
+use boxed_exact::Payload;
 use owned_data::Mem;
 use std::alloc::Global;
 

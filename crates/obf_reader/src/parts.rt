@@ -11,11 +11,11 @@ ghost use Rattle.file_grammar.specs.Readings.{message_at};
 ghost use Rattle.obf_reader.specs.Parts.{AreParts, IsReadOf, own_facts};
 ghost use Rattle.obf_reader.specs.Spread.{IsInBytes};
 
-use boxed_exact::{Number, Payload};
 use crate::heads::{HeadNumbers, head_numbers, is_head};
 use crate::mark_list::{MarksRead, read_marks};
 use crate::rule_text::{RulesRead, read_rules};
 use crate::spans::{file_spans, list_of_marks};
+use boxed_exact::{Number, Payload};
 use file_grammar::FirstBreak;
 use obf_wire::FileKind;
 use owned_data::Mem;

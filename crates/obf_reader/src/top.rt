@@ -11,13 +11,21 @@ use obf_wire::{Cursor, Field};
 
 /// The keys of the fields of a file, in their order.
 const VERSION: u64 = 8;
+
 const HEAD: u64 = 18;
+
 const RULES: u64 = 26;
+
 const MAP: u64 = 54;
+
 const ADDRESSES: u64 = 62;
+
 const POIS: u64 = 70;
+
 const ROADS: u64 = 78;
+
 const MARKS: u64 = 134;
+
 const AGAIN: u64 = 256;
 
 /// The field of the section of map records.

@@ -1,4 +1,4 @@
-use Rattle.std.proofs.Common.{◌≡◌, ℕ, arith}
+use Rattle.std.proofs.Common.{arith}
 use Rattle.obf_wire.specs.Fields.{Window}
 use Rattle.boxed_exact.specs.Sides.{beside}
 use Rattle.boxed_exact.specs.Boxes.{box_of}

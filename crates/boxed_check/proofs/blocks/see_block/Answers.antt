@@ -1,5 +1,4 @@
 use Rattle.std.proofs.Common.{arith}
-use Rattle.obf_wire.specs.Fields.{Window}
 use Rattle.boxed_exact.specs.Sides.{beside}
 use Rattle.boxed_exact.specs.Boxes.{box_of}
 use Rattle.boxed_check.proofs.BlockWalk.{block_is}

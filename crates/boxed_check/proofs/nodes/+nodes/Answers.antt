@@ -1,11 +1,11 @@
-use Rattle.std.proofs.Common.{◌≡◌, ◌∙◌, ◌++◌, ◌∷◌, [], ℕ, List, ap, sym, subst, refl, arith, rules}
+use Rattle.std.proofs.Common.{◌∙◌, ◌++◌, ◌∷◌, [], List, ap, sym, subst, arith, rules}
 use Rattle.obf_wire.specs.Fields.{Window}
 use Rattle.boxed_exact.specs.Boxes.{box_of}
 use Rattle.boxed_check.specs.Nodes.{IsGoodNode}
 use Rattle.boxed_exact.specs.declared.nodes.LeafSeen.{LeafSeen}
 use Rattle.boxed_check.proofs.NodeWalk.{node_of_leaf, node_of_nodes, nodes_on, nodes_end}
 use Rattle.boxed_check.proofs.nodes.+nodes.Goals as goal
-use Rattle.std.specs.Prelude.{IfSome, Option, Some, true, nat_lt}
+use Rattle.std.specs.Prelude.{IfSome, Option}
 use Rattle.std.proofs.lemmas.Bool.{ltb-true}
 use Rattle.boxed_exact.specs.declared.edges.Edges.{Edges}
 

@@ -1,5 +1,4 @@
-use Rattle.std.proofs.Common.{◌≡◌, ◌∙◌, sym, arith, rules}
-use Rattle.obf_wire.specs.Fields.{Window}
+use Rattle.std.proofs.Common.{rules}
 use Rattle.boxed_check.proofs.NodeWalk.{front_is}
 use Rattle.boxed_check.proofs.nodes.front_of.Goals as goal
 

@@ -1,6 +1,5 @@
-use Rattle.std.proofs.Common.{◌≡◌, Ok, Result, ap, subst, sym, arith}
+use Rattle.std.proofs.Common.{subst, sym, arith}
 use Rattle.obf_wire.specs.Fields.{Window}
-use Rattle.boxed_check.specs.declared.points.Spot.{Spot}
 use Rattle.boxed_exact.specs.Boxes.{box_of}
 use Rattle.boxed_check.specs.Points.{IsMoved}
 use Rattle.boxed_check.proofs.PointWalk.{moved_is}

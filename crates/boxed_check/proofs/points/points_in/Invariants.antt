@@ -1,6 +1,5 @@
 use Rattle.std.proofs.Common.{◌≤◌, ◌-◌, ℕ}
 use Rattle.std.specs.Prelude.{pos}
-use Rattle.obf_wire.specs.Fields.{Window}
 use Rattle.boxed_exact.specs.Boxes.{box_of}
 use Rattle.boxed_check.specs.Points.{ArePointsSeen, IsOnGridSpot, PointsLeft}
 use Rattle.boxed_check.proofs.points.points_in.Given as goal

@@ -1,4 +1,4 @@
-use Rattle.std.proofs.Common.{◌≡◌, ℕ, List, [], Option, subst, rules}
+use Rattle.std.proofs.Common.{ℕ, List, Option, subst, rules}
 use Rattle.std.specs.Prelude.{IfSome}
 use Rattle.obf_wire.specs.Fields.{Window}
 use Rattle.boxed_exact.specs.declared.fields.Payload.{Payload}

@@ -1,4 +1,4 @@
-use Rattle.std.proofs.Common.{◌≡◌, ◌≤◌, ◌∷◌, ◌++◌, ◌∙◌, [], ℕ, List, length, Ok, ap, subst, arith}
+use Rattle.std.proofs.Common.{◌≤◌, ◌∷◌, ◌++◌, ◌∙◌, [], ℕ, List, length, ap, subst, arith}
 use Rattle.boxed_exact.specs.declared.fields.Payload.{Payload}
 use Rattle.boxed_check.proofs.SurveyWalk.{survey_all, survey_begin, survey_on}
 use Rattle.boxed_check.proofs.surveying.survey_blocks.Goals as goal

@@ -1,4 +1,4 @@
-use Rattle.std.proofs.Common.{◌≡◌, ℕ, arith, rules}
+use Rattle.std.proofs.Common.{arith, rules}
 use Rattle.obf_wire.specs.Fields.{Window}
 use Rattle.boxed_check.proofs.BlockWalk.{texts_on, texts_end}
 use Rattle.boxed_check.proofs.texts.texts_in.Goals as goal

@@ -1,4 +1,4 @@
-use Rattle.std.proofs.Common.{◌≡◌, ◌+◌, ◌∙◌, ◌&&◌, ℕ, List, Option, Some, Ok, sym, ap, subst, arith, length}
+use Rattle.std.proofs.Common.{◌≡◌, ◌+◌, ◌∙◌, ℕ, List, Option, Some, Ok, sym, ap, subst, arith, length}
 use Rattle.std.specs.Option.{option_map}
 use Rattle.file_grammar.specs.declared.parts.Part.TheVariants.{Record}
 use Rattle.file_grammar.specs.Messages.{Fields}
@@ -8,7 +8,7 @@ use Rattle.boxed_exact.specs.declared.blocks.BlockSeen.{BlockSeen}
 use Rattle.boxed_exact.specs.Boxes.{box_of}
 use Rattle.boxed_exact.specs.Records.{IsRecordChecked}
 use Rattle.boxed_exact.specs.Sides.{beside}
-use Rattle.boxed_exact.proofs.RecordWalk.{RecordsLeft, records_all, records_begin, records_on}
+use Rattle.boxed_exact.proofs.RecordWalk.{RecordsLeft, records_all, records_on}
 use Rattle.boxed_exact.proofs.blocks.check_records.Goals as goal
 
 pub loop-field-preserved : goal.loop-field-preserved
@@ -20,7 +20,7 @@ loop-field-preserved g c =
     let told = c.check-checked.result in
     let count : c.with_record-seen.result.count ≡ c.loop-field.seen.count + 1 = ap (λ (s : BlockSeen). s.count) c.with_record-seen.ensures in
     let see = subst (λ (bytes : List ℕ). (fields : Fields) (block : Block) (prev : Option Entry) → message_at (Record m.class) (record { bytes = bytes; place = f.from; end = f.to }) ≡ Ok fields → length block.texts ≡ c.args.texts → option_map m.key_of prev ≡ c.loop-field.before
-        → IsRecordChecked m.boxing m.key_of side holder block prev (record { at = f.at; ordinal = c.loop-field.ordinal + step_of fields; fields = fields }) c.loop-field.first c.check-checked.new.first told.ordinal told.key told.in_box)
+    → IsRecordChecked m.boxing m.key_of side holder block prev (record { at = f.at; ordinal = c.loop-field.ordinal + step_of fields; fields = fields }) c.loop-field.first c.check-checked.new.first told.ordinal told.key told.in_box)
     (sym c.loop-field.invariant.same) c.check-checked.ensures.checked in
     record {
       records = λ fields e are block texts.

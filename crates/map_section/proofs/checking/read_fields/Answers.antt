@@ -1,7 +1,8 @@
-use Rattle.std.proofs.Common.{◌≡◌, arith, sym}
+use Rattle.std.proofs.Common.{arith}
 use Rattle.obf_wire.specs.Fields.{Window}
 use Rattle.map_section.proofs.MapRead.{read_is}
 use Rattle.map_section.proofs.checking.read_fields.Goals as goal
+
 pub returns-clause-read : goal.returns-clause-read
 returns-clause-read c =
     let w : Window = record { bytes = c.args.bytes.now; place = c.args.from; end = c.args.to } in

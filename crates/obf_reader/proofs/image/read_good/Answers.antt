@@ -1,4 +1,4 @@
-use Rattle.std.proofs.Common.{◌≡◌, Option, sym, subst, arith, rules}
+use Rattle.std.proofs.Common.{Option, subst, arith, rules}
 use Rattle.std.specs.Prelude.{IfSome}
 use Rattle.boxed_check.specs.declared.kept.Kept.{Kept}
 use Rattle.obf_reader.specs.Reads.{IsMapKept}

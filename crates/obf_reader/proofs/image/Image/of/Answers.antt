@@ -1,4 +1,4 @@
-use Rattle.std.proofs.Common.{◌≡◌, ℕ, List, Ok, true, refl, sym, subst}
+use Rattle.std.proofs.Common.{◌≡◌, ℕ, List, true, refl, sym, subst}
 use Rattle.std.specs.List.{list_all}
 use Rattle.std.proofs.lemmas.Bool.{and_from}
 use Rattle.file_grammar.specs.declared.parts.Boxed.TheVariants.{Map}
