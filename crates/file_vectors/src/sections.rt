@@ -2,13 +2,15 @@
 
 ghost use Rattle.std.specs.Prelude.{◌≡◌, ◌≤◌, ◌<◌, length};
 ghost use Rattle.live_model.specs.Stores.{IsStore};
-ghost use Rattle.map_section.specs.Marked.{AreRising};
+ghost use Rattle.boxed_exact.specs.Sides.{AreRising};
 
 use crate::wire::{next_range, put_break};
+use boxed_check::{Kept, check};
+use boxed_exact::Around;
 use derive_map::derive_all;
 use entity_store::Store;
 use live_model::{Mem, Steps};
-use map_section::{Section, form, sound, write};
+use map_section::{MapClass, write};
 use obf_wire::{FileError, Marks};
 use std::alloc::Global;
 use std::marker::Brand;
@@ -65,7 +67,7 @@ fn checked(alloc: Global, fields: &mut Fields<'_>, out: &mut Answer) -> Result<(
     )
 }
 
-/// A section: first its form, and then its rules.
+/// A section of map records.
 fn read(
     alloc: Global,
     bytes: &[u8],
@@ -73,13 +75,12 @@ fn read(
     to: usize,
     rules: &Rules,
     marks: Marks<'_>,
-) -> Result<Section, FileError>
+) -> Result<Kept, FileError>
     requires ordered { from ≤ to }
     requires within { to ≤ length bytes.now }
     requires marks { AreRising marks }
 {
-    form(bytes, from, to)?;
-    sound(alloc, bytes, from, to, rules, marks)
+    check::<MapClass>(alloc, bytes, from, to, &Around { rules, marks })
 }
 
 /// The section of the map records that rules make of a store.
