@@ -36,7 +36,7 @@ struct Places {
     err: PathBuf,
 }
 
-fn places<R: Env + Files + AllocGlobal>(rt: &R) -> io::Result<Places> {
+fn made_places<R: Env + Files + AllocGlobal>(rt: &R) -> io::Result<Places> {
     let folder = env::temp_dir(rt)?;
     Ok(Places {
         base: folder.join(rt.alloc(), "run-tests-base")?,
@@ -72,7 +72,7 @@ fn check_start<R: Abort + Files + AllocGlobal + Wait + Threads + Sync>(
 #[test]
 fn starts_over_the_system(rt: HostRuntime) -> Result<(), Fail> {
     let alloc = rt.alloc();
-    let places = places(&rt)?;
+    let places = made_places(&rt)?;
     let base = places.base.as_path().to_string_lossy();
     let output = places.output.as_path().to_string_lossy();
     fs::write(&rt, base, "w7 Nn1,n2x1y2")?;
@@ -108,6 +108,7 @@ fn starts_over_the_system(rt: HostRuntime) -> Result<(), Fail> {
 }
 
 // A program's name and two arguments, of which the second is these bytes.
+#[derive(Drop)]
 struct Two(&'static [u8]);
 
 fn copied(bytes: &[u8], buf: &mut [u8]) -> Result<usize, FillError>
