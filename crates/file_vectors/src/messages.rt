@@ -1,7 +1,5 @@
 //! The form of messages, their fields, and the first of several breaks.
 
-ghost use Rattle.std.specs.Prelude.{◌≡◌, ◌≤◌, length};
-
 use crate::wire::{next_range, put_break, put_field};
 use file_grammar::{Boxed, FieldWalk, FirstBreak, Group, Part, form};
 use obf_wire::FileKind;

@@ -1,7 +1,5 @@
 //! Tables of texts.
 
-ghost use Rattle.std.specs.Prelude.{◌≡◌};
-
 use std::alloc::Global;
 use text_table::{TextTable, Texts};
 use vector_rows::{Answer, Fields, RowError};

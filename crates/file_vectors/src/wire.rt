@@ -1,6 +1,6 @@
 //! Numbers and fields in their wire form.
 
-ghost use Rattle.std.specs.Prelude.{◌≡◌, ◌≤◌, length, OnTrue};
+ghost use Rattle.std.specs.Prelude.{◌≤◌, IfOk, length};
 
 use obf_wire::{Cursor, Field, FileBreak, Out, WireBreak, read_varint, unzigzag, zigzag};
 use std::alloc::Global;
