@@ -18,9 +18,14 @@ pub enum Verb {
 #[derive(Clone, Copy)]
 pub enum Request<'a> {
     /// The located nodes of the base in the rectangle.
-    Nodes { rect: Rect, base: &'a str },
+    Nodes {
+        rect: Rect,
+        base: &'a str,
+    },
     /// All objects of the base.
-    Dump { base: &'a str },
+    Dump {
+        base: &'a str,
+    },
     /// A map file of the base under the rules, to be written.
     Build {
         rules: &'a str,
@@ -28,7 +33,9 @@ pub enum Request<'a> {
         output: &'a str,
     },
     /// Whether the file is a map file.
-    Check { file: &'a str },
+    Check {
+        file: &'a str,
+    },
 }
 
 /// What the words ask for. `None` exactly where they are none of `nodes RECT BASE`, `dump BASE`, `build RULES BASE OUT` and

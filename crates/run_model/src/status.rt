@@ -18,7 +18,10 @@ pub enum Status<'a> {
     /// The words name more files than a run takes.
     TooManyFiles,
     /// The file has a break, and this is the first.
-    Refused { file: Name<'a>, first: Break },
+    Refused {
+        file: Name<'a>,
+        first: Break,
+    },
     /// All files are good, and this one, of this index among them, is the first that does not follow.
     Misfit {
         file: Name<'a>,
@@ -26,15 +29,21 @@ pub enum Status<'a> {
         index: usize,
     },
     /// A read of the file failed.
-    ReadFault { file: Name<'a> },
+    ReadFault {
+        file: Name<'a>,
+    },
     /// The write of the file failed.
-    WriteFault { file: Name<'a> },
+    WriteFault {
+        file: Name<'a>,
+    },
     /// A put of the answer failed.
     AnswerFault,
     /// Memory was refused.
     NoMemory,
     /// The file has, or would get, more bytes than the program takes.
-    Limit { file: Name<'a> },
+    Limit {
+        file: Name<'a>,
+    },
 }
 
 impl Status<'_> {
