@@ -1,7 +1,7 @@
 -- What stands beside a section, as the code holds it.
 use Rattle.std.specs.Prelude.{ℕ, List, Option, Some, None}
 use Rattle.std.specs.Ordering.{nat_cmp}
-use Rattle.live_model.specs.Ordered.{IsRisingBy}
+use Rattle.ordered_lists.specs.Ordered.{IsRisingBy}
 use Rattle.obf_wire.specs.declared.file.Marks.{Marks}
 use Rattle.obf_wire.specs.declared.file.Marks.TheVariants.{Any, Only}
 use Rattle.file_grammar.specs.BoxRules.{Beside}

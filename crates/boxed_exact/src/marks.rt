@@ -3,7 +3,7 @@
 ghost use Rattle.std.specs.Prelude.{◌≡◌, ◌==◌, ◌<◌, true};
 ghost use Rattle.std.specs.List.{list_any};
 ghost use Rattle.std.specs.Ordering.{nat_cmp};
-ghost use Rattle.live_model.specs.Ordered.{IsRisingBy};
+ghost use Rattle.ordered_lists.specs.Ordered.{IsRisingBy};
 ghost use Rattle.file_grammar.specs.BoxRules.{is_marked};
 ghost use Rattle.boxed_exact.specs.Sides.{AreRising, ordinals_of};
 

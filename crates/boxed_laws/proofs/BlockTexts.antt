@@ -9,8 +9,8 @@ use Rattle.std.specs.declared.cmp.Ordering.TheVariants.{Less}
 use Rattle.std.proofs.lemmas.Bool.{and_from, or_left}
 use Rattle.std.proofs.lemmas.Cmp.{nat_list_cmp_total}
 use Rattle.std.proofs.lemmas.Str.{is_utf8-from_IsUtf8}
-use Rattle.live_model.specs.Ordered.{below, above, put_by, put_all}
-use Rattle.live_model.proofs.PutAll.{rising-put_all, length-put_all}
+use Rattle.ordered_lists.specs.Ordered.{below, above, put_by, put_all}
+use Rattle.ordered_lists.proofs.PutAll.{rising-put_all, length-put_all}
 use Rattle.text_table.specs.Tables.{text_cmp, AreRising}
 use Rattle.file_grammar.specs.Messages.{beyond}
 use Rattle.file_grammar.specs.Facts.{AllHold}

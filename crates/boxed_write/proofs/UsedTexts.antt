@@ -8,7 +8,7 @@ use Rattle.std.specs.declared.cmp.Ordering.TheVariants.{Less, Equal, Greater}
 use Rattle.std.proofs.lemmas.Bool.Decides.{nat_tests}
 use Rattle.std.proofs.lemmas.List.Sums.{sum_by-cons}
 use Rattle.std.proofs.lemmas.List.Elements.{Contains-append_left, Contains-append_right}
-use Rattle.live_model.specs.Ordered.{below, above, put_by, put_all}
+use Rattle.ordered_lists.specs.Ordered.{below, above, put_by, put_all}
 use Rattle.text_table.specs.Tables.{text_cmp, AreRising}
 use Rattle.text_table.proofs.Rising.{equal_is, itself, less_back}
 use Rattle.boxed_write.specs.Packed.{Packing, texts_of, text_number}

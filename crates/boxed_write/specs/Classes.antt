@@ -6,7 +6,7 @@ use Rattle.std.specs.declared.cmp.Ordering.{Ordering}
 use Rattle.std.specs.declared.cmp.Ordering.TheVariants.{Equal}
 use denote.Ref.{Bor}
 use Rattle.live_model.specs.declared.points.Rect.{Rect}
-use Rattle.live_model.specs.Ordered.{put_all}
+use Rattle.ordered_lists.specs.Ordered.{put_all}
 use Rattle.live_model.specs.Geometry.{middle}
 use Rattle.box_tree.specs.Packing.{code}
 use Rattle.text_table.specs.Tables.{text_cmp}

@@ -5,7 +5,7 @@ use Rattle.std.specs.Ordering.{nat_cmp, ordering_then, is_le, is_lt}
 use Rattle.std.specs.declared.cmp.Ordering.{Ordering}
 use Rattle.live_model.specs.declared.points.Rect.{Rect}
 use Rattle.live_model.specs.Geometry.{middle}
-use Rattle.live_model.specs.Ordered.{put_all}
+use Rattle.ordered_lists.specs.Ordered.{put_all}
 use Rattle.obf_wire.specs.Fields.{number_field, short_field, section}
 use Rattle.text_table.specs.Tables.{text_cmp, table_bytes}
 use Rattle.box_tree.specs.Packing.{code}

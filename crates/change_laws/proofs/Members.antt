@@ -6,7 +6,7 @@ use Rattle.std.specs.Ordering.{nat_cmp}
 use Rattle.std.specs.declared.cmp.Ordering.TheVariants.{Less}
 use Rattle.std.proofs.lemmas.Bool.{eqb-true, eqb-false, ne_eqb, cases_lt}
 use Rattle.live_model.specs.Ids.{Id, IsId, ordinal}
-use Rattle.live_model.specs.Ordered.{IsRisingBy}
+use Rattle.ordered_lists.specs.Ordered.{IsRisingBy}
 use Rattle.map_laws.proofs.Folds.{any_append}
 use Rattle.map_laws.proofs.Picks.{lower}
 use Rattle.map_laws.proofs.RecordOrder.{one_id}

@@ -16,7 +16,7 @@ use Rattle.live_model.specs.Stores.{IsStore, apply}
 use Rattle.live_model.specs.Closures.{same_id, referred, entity_at, line_id, is_named, is_touched}
 use Rattle.live_model.specs.Records.{records, record_cmp}
 use Rattle.live_model.specs.Maps.{differs, changed, ids_of_both}
-use Rattle.live_model.proofs.PutAll.{all_filter, all_append, rising_filter, rising-put_all}
+use Rattle.ordered_lists.proofs.PutAll.{all_filter, all_append, rising_filter, rising-put_all}
 use Rattle.map_laws.proofs.Turns.{all_put}
 use Rattle.map_laws.proofs.RecordOrder.{record_total}
 use Rattle.map_laws.proofs.Folds.{any_rising}

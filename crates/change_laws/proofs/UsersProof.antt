@@ -11,10 +11,10 @@ use Rattle.live_model.specs.declared.objects.Line.{Line}
 use Rattle.live_model.specs.declared.objects.Line.TheVariants.{Live, Gone}
 use Rattle.live_model.specs.Ids.{Id, IsId, ordinal}
 use Rattle.live_model.specs.Objects.{IsGood, IsGoodLine}
-use Rattle.live_model.specs.Ordered.{IsRisingBy}
+use Rattle.ordered_lists.specs.Ordered.{IsRisingBy}
 use Rattle.live_model.specs.Stores.{key, IsRising, IsStore, apply}
 use Rattle.live_model.specs.Closures.{same_id, referred, entity_at, line_id, is_named}
-use Rattle.live_model.proofs.PutAll.{all_filter, all_append, rising_filter, rising-put_all}
+use Rattle.ordered_lists.proofs.PutAll.{all_filter, all_append, rising_filter, rising-put_all}
 use Rattle.map_laws.proofs.Turns.{all_put, all_mapped, all_weaker}
 use Rattle.map_laws.proofs.Folds.{any_append, any_rising}
 use Rattle.map_laws.proofs.Untouched.{or_false, entity_kept}

@@ -7,7 +7,7 @@ use Rattle.live_model.specs.declared.objects.Line.{Line}
 use Rattle.live_model.specs.declared.rules.Rule.{Rule}
 use Rattle.live_model.specs.Ids.{Id, IsId, ordinal}
 use Rattle.live_model.specs.Objects.{IsGoodLine}
-use Rattle.live_model.specs.Ordered.{IsRisingBy}
+use Rattle.ordered_lists.specs.Ordered.{IsRisingBy}
 use Rattle.live_model.specs.Stores.{IsStore, apply}
 use Rattle.live_model.specs.Closures.{rising_ids, referred, entity_at, line_id, is_named, is_touched}
 use Rattle.live_model.specs.Users.{is_among, users_of, touched}

@@ -12,7 +12,7 @@ use Rattle.std.proofs.lemmas.Bool.Decides.{nat_tests}
 use Rattle.std.proofs.lemmas.Cmp.{nat_list_cmp_total, tied_itself}
 use Rattle.std.proofs.lemmas.List.Kept.{IsStrictlySortedBy-dedup}
 use Rattle.std.proofs.lemmas.List.Sorted.{list_any-IsPermutation}
-use Rattle.live_model.specs.Ordered.{IsRisingBy, below, above, put_by, put_all}
+use Rattle.ordered_lists.specs.Ordered.{IsRisingBy, below, above, put_by, put_all}
 use Rattle.derive_poi.specs.Categories.{each_once}
 
 abbrev Text : Type 0

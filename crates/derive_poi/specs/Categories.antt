@@ -3,7 +3,7 @@ use Rattle.std.specs.Prelude.{ℕ, List, [], filter_map}
 use Rattle.std.specs.Ordering.{nat_cmp}
 use Rattle.std.specs.Cmp.Lexicographic.{slice_cmp}
 use Rattle.live_model.specs.declared.rules.Rule.{Rule}
-use Rattle.live_model.specs.Ordered.{put_all}
+use Rattle.ordered_lists.specs.Ordered.{put_all}
 use Rattle.live_model.specs.Records.{category_of}
 
 -- the categories of these rules, in their order

@@ -11,7 +11,7 @@ use Rattle.live_model.specs.declared.objects.Entity.{Entity}
 use Rattle.live_model.specs.declared.objects.Line.{Line}
 use Rattle.live_model.specs.declared.objects.Line.TheVariants.{Live, Gone}
 use Rattle.live_model.specs.Ids.{Id, ordinal}
-use Rattle.live_model.specs.Ordered.{below}
+use Rattle.ordered_lists.specs.Ordered.{below}
 use Rattle.live_model.specs.Objects.{IsGood, IsGoodLine}
 use Rattle.live_model.specs.Stores.{key, IsRising, IsStore, apply, apply_line}
 use Rattle.entity_store.specs.Turns.{line_key, lines_of, SameTurns}

@@ -9,7 +9,7 @@ use Rattle.std.proofs.lemmas.Bool.Decides.{nat_tests}
 use Rattle.std.specs.List.{AllByRecursion, AllWithin}
 use Rattle.std.specs.Ordering.{nat_cmp}
 use Rattle.std.specs.declared.cmp.Ordering.TheVariants.{Less}
-use Rattle.live_model.specs.Ordered.{IsRisingBy}
+use Rattle.ordered_lists.specs.Ordered.{IsRisingBy}
 use Rattle.entity_store.proofs.Rising.{less_is, other_fails}
 
 count_yes : {A : Type 0} (p : A → Bool) (x : A) (xs : List A) → p x ≡ true → count_by p (x ∷ xs) ≡ suc (count_by p xs)

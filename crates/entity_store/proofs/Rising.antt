@@ -9,7 +9,7 @@ use Rattle.std.specs.List.Sorted.{IsNonDecreasingBy}
 use Rattle.std.specs.List.{AllByRecursion}
 use Rattle.std.specs.Ordering.{nat_cmp, is_lt, is_gt}
 use Rattle.std.specs.declared.cmp.Ordering.TheVariants.{Less}
-use Rattle.live_model.specs.Ordered.{IsRisingBy, below, above, put_by, without_by}
+use Rattle.ordered_lists.specs.Ordered.{IsRisingBy, below, above, put_by, without_by}
 
 pub less_is : (a b : ℕ) → nat_cmp a b ≡ Less → a < b
 less_is a b e = grind (arith, nat_tests)

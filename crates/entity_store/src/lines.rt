@@ -4,7 +4,7 @@ ghost use Rattle.std.specs.Prelude.{◌≡◌, ◌≤◌, [], IfOk, IsTrue};
 ghost use Rattle.std.specs.List.{AllByRecursion};
 ghost use Rattle.std.specs.List.Sorted.{IsNonDecreasingBy};
 ghost use Rattle.std.specs.Ordering.{nat_cmp};
-ghost use Rattle.live_model.specs.Ordered.{below};
+ghost use Rattle.ordered_lists.specs.Ordered.{below};
 ghost use Rattle.live_model.specs.Stores.{key, apply, apply_line, IsRising};
 ghost use Rattle.entity_store.specs.Turns.{line_key, SameTurns};
 

@@ -3,7 +3,7 @@ use Rattle.std.specs.Prelude.{ℕ, zero, suc, ◌+◌, ◌*◌, List, [], ◌∷
 use Rattle.std.specs.List.{list_all, list_any}
 use Rattle.std.specs.Option.{option_map}
 use Rattle.std.specs.Ordering.{nat_cmp}
-use Rattle.live_model.specs.Ordered.{put_all}
+use Rattle.ordered_lists.specs.Ordered.{put_all}
 use Rattle.file_grammar.specs.declared.parts.Boxed.{Boxed}
 use Rattle.file_grammar.specs.declared.parts.Boxed.TheVariants.{Map, Poi, Road, Restriction}
 use Rattle.file_grammar.specs.declared.parts.Part.{Part}

@@ -25,7 +25,7 @@ use Rattle.live_model.specs.Points.{IsInGrid, longitude, latitude, point_at}
 use Rattle.live_model.specs.Objects.{AreTags}
 use Rattle.live_model.specs.FieldValues.{is_few, items_of, object_of, ref_of, version_of, coordinate_of, tag_of, tag_from, tags_from, pairs_of, refs_of, member_of, member_from, members_of, id_from}
 use Rattle.live_model.specs.CanonicalLines.{id_text, tag_text, ref_text, member_text, listed}
-use Rattle.live_model.proofs.PutAll.{put_all-rising}
+use Rattle.ordered_lists.proofs.PutAll.{put_all-rising}
 use Rattle.live_model.proofs.CanonicalBytes.{IsPlain, ArePlain, all_weaker, all_append, IsNumeral, signed_numeral, numerals_plain, escaped_plain}
 use Rattle.live_model.proofs.CanonicalParts.{IsItem, items_of-listed, each_of-listed, parted_at-first, KeepsEscapes, keeps_append, keeps_byte, keeps_bytes, keeps_escaped, keeps_listed, good_alone}
 

@@ -27,7 +27,7 @@ use Rattle.live_model.specs.FieldValues.{items_of, is_few, prepended, each_of, p
 use Rattle.live_model.specs.ObjectLines.{letter_byte, letter_of, is_value, is_field, are_fields, first_of, comes_in, value_in, found, place_from, line_from, head_of, line_with, line_of}
 use Rattle.live_model.specs.OplTexts.{spelled_lines}
 use Rattle.live_model.proofs.ValueBounds.{id_within, object_within, coordinate_within}
-use Rattle.live_model.proofs.PutAll.{rising-put_all, length-put_all}
+use Rattle.ordered_lists.proofs.PutAll.{rising-put_all, length-put_all}
 
 first_true : (a b : Bool) → (a && b) ≡ true → a ≡ true
 first_true true b e = refl

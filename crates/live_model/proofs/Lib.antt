@@ -1,6 +1,5 @@
 pub mod GoodLines
 pub mod LineLaw
-pub mod PutAll
 pub mod Rects
 pub mod TextReadings
 pub mod ValueBounds

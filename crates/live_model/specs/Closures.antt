@@ -7,7 +7,7 @@ use Rattle.live_model.specs.declared.objects.Entity.{Entity}
 use Rattle.live_model.specs.declared.objects.Line.{Line}
 use Rattle.live_model.specs.declared.objects.Line.TheVariants.{Live, Gone}
 use Rattle.live_model.specs.Ids.{Id, ordinal}
-use Rattle.live_model.specs.Ordered.{put_all}
+use Rattle.ordered_lists.specs.Ordered.{put_all}
 use Rattle.live_model.specs.Stores.{key}
 
 -- two ids of one object

@@ -12,7 +12,7 @@ use Rattle.live_model.specs.declared.ids.Kind.TheVariants.{Node, Way, Relation}
 use Rattle.live_model.specs.declared.objects.Tag.{Tag}
 use Rattle.live_model.specs.declared.objects.Member.{Member}
 use Rattle.live_model.specs.Ids.{Id}
-use Rattle.live_model.specs.Ordered.{put_all}
+use Rattle.ordered_lists.specs.Ordered.{put_all}
 
 -- Lists.
 

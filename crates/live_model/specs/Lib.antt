@@ -1,6 +1,5 @@
 pub mod Ids
 pub mod Points
-pub mod Ordered
 pub mod Objects
 pub mod Stores
 pub mod FieldValues

@@ -9,7 +9,7 @@ use Rattle.live_model.specs.declared.rules.Rule.{Rule}
 use Rattle.live_model.specs.declared.records.Rec.{Rec}
 use Rattle.live_model.specs.Ids.{Id, IsId, ordinal}
 use Rattle.live_model.specs.Objects.{IsGoodLine}
-use Rattle.live_model.specs.Ordered.{IsRisingBy}
+use Rattle.ordered_lists.specs.Ordered.{IsRisingBy}
 use Rattle.live_model.specs.Stores.{IsStore, apply}
 use Rattle.live_model.specs.Closures.{is_touched}
 use Rattle.live_model.specs.Records.{records, record_id, record_cmp}

@@ -4,6 +4,7 @@ use Rattle.std.specs.Option.{option_map}
 use Rattle.std.specs.List.{list_any, slice_get, starts_with}
 use Rattle.std.specs.Ordering.{is_le, is_ne}
 use Rattle.std.specs.Cmp.Lexicographic.{slice_cmp}
+use Rattle.name_fold.specs.Keys.{key}
 use Rattle.live_model.specs.declared.points.Point.{Point}
 use Rattle.live_model.specs.declared.points.Rect.{Rect}
 use Rattle.live_model.specs.declared.objects.Entity.{Entity}
@@ -78,28 +79,27 @@ segments_in rect road index (a ∷ b ∷ nodes) =
     row_if (meets rect (a.point ∷ b.point ∷ [])) (SegmentRow (segment road index a b)) ++ segments_in rect road (index + 1) (b ∷ nodes)
 segments_in rect road index nodes = []
 
-module _ (name_key : List ℕ → List ℕ) where
-  -- a place or a street whose key begins with this one
-  abbrev pub begins_with : List ℕ → AddrRec → Bool
-  begins_with text a = is_named_place a.kind && starts_with (λ c d. c == d) (name_key a.name) (name_key text)
+-- a place or a street whose key begins with this one
+abbrev pub begins_with : List ℕ → AddrRec → Bool
+begins_with text a = is_named_place a.kind && starts_with (λ c d. c == d) (key a.name) (key text)
 
-  -- a house of a street with this key
-  abbrev pub is_house_of : List ℕ → AddrRec → Bool
-  is_house_of street a = is_house a.kind && bytes_eq (name_key a.name) (name_key street)
+-- a house of a street with this key
+abbrev pub is_house_of : List ℕ → AddrRec → Bool
+is_house_of street a = is_house a.kind && bytes_eq (key a.name) (key street)
 
-  -- the rows that a record gives to a question
-  abbrev pub rows : List Rule → Query → Rec → List Row
-  rows rules (View rect zoom) (Map m) = row_if (is_shown rules zoom m.rule && meets rect m.points) (MapRow m)
-  rows rules (Category category rect) (Poi p) = row_if (bytes_eq p.category category && is_inside rect p.point) (PoiRow p)
-  rows rules (Prefix text) (Addr a) = row_if (begins_with text a) (AddrRow a)
-  rows rules (StreetQuery text) (Addr a) = row_if (is_house_of text a) (AddrRow a)
-  rows rules (Roads rect) (Road road) = segments_in rect road 0 road.nodes
-  rows rules (Roads rect) (Ban b) = row_if (is_inside rect b.point) (BanRow b)
-  rows rules query r = []
+-- the rows that a record gives to a question
+abbrev pub rows : List Rule → Query → Rec → List Row
+rows rules (View rect zoom) (Map m) = row_if (is_shown rules zoom m.rule && meets rect m.points) (MapRow m)
+rows rules (Category category rect) (Poi p) = row_if (bytes_eq p.category category && is_inside rect p.point) (PoiRow p)
+rows rules (Prefix text) (Addr a) = row_if (begins_with text a) (AddrRow a)
+rows rules (StreetQuery text) (Addr a) = row_if (is_house_of text a) (AddrRow a)
+rows rules (Roads rect) (Road road) = segments_in rect road 0 road.nodes
+rows rules (Roads rect) (Ban b) = row_if (is_inside rect b.point) (BanRow b)
+rows rules query r = []
 
-  -- the rows of the records of a map, in order
-  abbrev pub answer : List Rule → Query → List Rec → List Row
-  answer rules query records = flat_map (rows rules query) records
+-- the rows of the records of a map, in order
+abbrev pub answer : List Rule → Query → List Rec → List Row
+answer rules query records = flat_map (rows rules query) records
 
 -- Records in order.
 

@@ -14,7 +14,7 @@ use Rattle.live_model.specs.declared.objects.Line.{Line}
 use Rattle.live_model.specs.declared.objects.Line.TheVariants.{Live, Gone}
 use Rattle.live_model.specs.Ids.{IsId}
 use Rattle.live_model.specs.Points.{IsInGrid}
-use Rattle.live_model.specs.Ordered.{IsRisingBy}
+use Rattle.ordered_lists.specs.Ordered.{IsRisingBy}
 
 -- tags in the order of the bytes of their keys, no key twice
 abbrev pub AreTags : List Tag → Type 0

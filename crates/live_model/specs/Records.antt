@@ -27,7 +27,7 @@ use Rattle.live_model.specs.declared.records.BanRec.{BanRec}
 use Rattle.live_model.specs.declared.records.Rec.{Rec}
 use Rattle.live_model.specs.declared.records.Rec.TheVariants.{Map, Poi, Addr, Road, Ban}
 use Rattle.live_model.specs.Ids.{Id, ordinal, rank}
-use Rattle.live_model.specs.Ordered.{put_all}
+use Rattle.ordered_lists.specs.Ordered.{put_all}
 use Rattle.live_model.specs.Rules.{matches, shape_rank}
 use Rattle.live_model.specs.Closures.{same_id, closure}
 use Rattle.live_model.specs.Geometry.{located, located_nodes, points_of, shapes_of, point_of}

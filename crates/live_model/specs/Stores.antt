@@ -6,7 +6,7 @@ use Rattle.live_model.specs.declared.objects.Entity.{Entity}
 use Rattle.live_model.specs.declared.objects.Line.{Line}
 use Rattle.live_model.specs.declared.objects.Line.TheVariants.{Live, Gone}
 use Rattle.live_model.specs.Ids.{ordinal}
-use Rattle.live_model.specs.Ordered.{IsRisingBy, put_by, without_by}
+use Rattle.ordered_lists.specs.Ordered.{IsRisingBy, put_by, without_by}
 use Rattle.live_model.specs.Objects.{IsGood}
 
 -- the place of an entity in a store

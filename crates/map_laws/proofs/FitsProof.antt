@@ -37,7 +37,7 @@ use Rattle.live_model.specs.Closures.{same_id, node_id, entity_at, looked_up, re
 use Rattle.live_model.specs.Geometry.{box_around, box_of, box_with, is_closed, kind_points, kind_shapes, located, located_nodes, middle, node_at, one_point, point_of, points_of, shapes_with}
 use Rattle.live_model.specs.Records.{records, records_with, applies, wanted, is_empty, has_class, is_map, is_place, is_road, map_record, map_records, matching, matching_class, tag_or_empty, tagged, category_of, categories, pois_at, poi_record, poi_records, named_address, named_at, names_of, house, address_records, place_records, street_records, house_records, road_record, road_records, the_only, target_as, located_among, restriction_from, restriction_of, restriction_records}
 use Rattle.live_model.specs.Fits.{Fits, FitsAddress, FitsLaw, FitsMap, FitsPoi, FitsRoad, IsCount, IsRoadNode, drawn_kind}
-use Rattle.live_model.proofs.PutAll.{all_append, all_filter}
+use Rattle.ordered_lists.proofs.PutAll.{all_append, all_filter}
 use Rattle.map_laws.proofs.Names.{IsNamed, both_true, not_empty, same_text, names_fit}
 use Rattle.map_laws.proofs.Turns.{all_put, all_mapped, all_weaker}
 use Rattle.map_laws.proofs.Untouched.{records_from, records_are}

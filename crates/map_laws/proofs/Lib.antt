@@ -1,4 +1,3 @@
-pub mod StableSort
 pub mod Picks
 pub mod Folds
 pub mod RecordOrder

@@ -10,7 +10,7 @@ use Rattle.std.specs.declared.cmp.Ordering.TheVariants.{Less, Equal, Greater}
 use Rattle.std.proofs.lemmas.Bool.{false≢true}
 use Rattle.std.proofs.lemmas.Map.Text.{is_eq-slice_cmp}
 use Rattle.live_model.specs.declared.objects.Tag.{Tag}
-use Rattle.live_model.specs.Ordered.{IsRisingBy}
+use Rattle.ordered_lists.specs.Ordered.{IsRisingBy}
 use Rattle.live_model.specs.Objects.{AreTags}
 use Rattle.live_model.specs.Records.{wanted, is_empty, is_language, named_language, language_of, language_and_name}
 use Rattle.map_laws.proofs.RecordOrder.{text_tells}

@@ -21,12 +21,12 @@ use Rattle.live_model.specs.declared.records.BanRec.{BanRec}
 use Rattle.live_model.specs.declared.records.Rec.{Rec}
 use Rattle.live_model.specs.declared.records.Rec.TheVariants.{Map, Poi, Addr, Road, Ban}
 use Rattle.live_model.specs.Ids.{Id, ordinal}
-use Rattle.live_model.specs.Ordered.{IsRisingBy}
+use Rattle.ordered_lists.specs.Ordered.{IsRisingBy}
 use Rattle.live_model.specs.Geometry.{point_of}
 use Rattle.live_model.specs.Records.{applies, wanted, matching, matching_class, is_map, is_road, category_of, map_record, map_records, categories, poi_record, pois_at, poi_records, named_address, named_at, names_of, house, address_records, road_record, road_records, restriction_from, restriction_of, restriction_records, tag_or_empty, tagged, target_as, located_among, records_with, address_rank, class_rank, record_id, class_cmp, record_cmp}
 use Rattle.live_model.specs.Objects.{AreTags}
-use Rattle.live_model.proofs.PutAll.{all_append, rising_filter, rising-put_all}
-use Rattle.map_laws.proofs.StableSort.{InTurn}
+use Rattle.ordered_lists.proofs.PutAll.{all_append, rising_filter, rising-put_all}
+use Rattle.ordered_lists.proofs.StableSort.{InTurn}
 use Rattle.map_laws.proofs.RecordOrder.{class_is}
 use Rattle.map_laws.proofs.Names.{names_rising}
 use Rattle.map_laws.proofs.Turns.{all_each, all_mapped, all_weaker, turn_map, turn_rising, turn_first, At, Part, first_part, joined}

@@ -15,13 +15,13 @@ use Rattle.live_model.specs.declared.rules.Rule.{Rule}
 use Rattle.live_model.specs.declared.records.Rec.{Rec}
 use Rattle.live_model.specs.Ids.{Id, IsId, ordinal}
 use Rattle.live_model.specs.Objects.{IsGood, IsGoodLine}
-use Rattle.live_model.specs.Ordered.{IsRisingBy, below, above}
+use Rattle.ordered_lists.specs.Ordered.{IsRisingBy, below, above}
 use Rattle.live_model.specs.Stores.{key, IsRising, IsStore, apply, apply_line}
 use Rattle.live_model.specs.Closures.{same_id}
 use Rattle.live_model.specs.Records.{records, record_id, record_cmp}
 use Rattle.live_model.specs.Maps.{map_of, Overlay, is_mark, ids_of_both, differs, changed, overlay_between, over, laid, last_for, all_marks, folded}
 use Rattle.live_model.specs.MapLaws.{IsOverlay, OverlayLaw, HistoryLaw, FoldIsOverlayLaw, SameRecordLaw, overlays}
-use Rattle.live_model.proofs.PutAll.{all_filter, all_append, rising_filter, rising-put_all, rising-put_by, rising-without_by}
+use Rattle.ordered_lists.proofs.PutAll.{all_filter, all_append, rising_filter, rising-put_all, rising-put_by, rising-without_by}
 use Rattle.map_laws.specs.Laws.{MarkLaw}
 use Rattle.map_laws.proofs.Turns.{all_put, all_mapped, all_weaker}
 use Rattle.map_laws.proofs.Picks.{picked}

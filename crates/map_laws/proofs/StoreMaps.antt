@@ -10,14 +10,14 @@ use Rattle.live_model.specs.declared.rules.Rule.{Rule}
 use Rattle.live_model.specs.declared.records.Rec.{Rec}
 use Rattle.live_model.specs.Ids.{Id, IsId, ordinal}
 use Rattle.live_model.specs.Objects.{IsGood}
-use Rattle.live_model.specs.Ordered.{IsRisingBy}
+use Rattle.ordered_lists.specs.Ordered.{IsRisingBy}
 use Rattle.live_model.specs.Stores.{key, IsRising}
 use Rattle.live_model.specs.Closures.{entity_at, looked_up, referred}
 use Rattle.live_model.specs.Records.{records, records_with, record_id}
 use Rattle.live_model.specs.Maps.{map_of}
 use Rattle.live_model.specs.MapLaws.{OrderLaw}
-use Rattle.live_model.proofs.PutAll.{all_append}
-use Rattle.map_laws.proofs.StableSort.{InTurn}
+use Rattle.ordered_lists.proofs.PutAll.{all_append}
+use Rattle.ordered_lists.proofs.StableSort.{InTurn}
 use Rattle.map_laws.proofs.Turns.{all_weaker, turn_append}
 use Rattle.map_laws.proofs.Picks.{AreOf, picked, lower}
 use Rattle.map_laws.proofs.InOrder.{ranked, of_one, order_of_up}

@@ -5,6 +5,7 @@ use Rattle.std.specs.declared.cmp.Ordering.TheVariants.{Less}
 use Rattle.std.specs.Fmt.{digits}
 use Rattle.std.specs.Str.{is_utf8, chars}
 use Rattle.std.proofs.Math.Utf8.{encode}
+use Rattle.name_fold.specs.Keys.{key}
 use Rattle.text_pieces.specs.Lines.{lines_from, fields_from}
 use Rattle.text_pieces.specs.Numbers.{number_of}
 use Rattle.text_pieces.specs.Escapes.{character_of, unescaped, text_of, escaped}
@@ -809,95 +810,91 @@ town_in_order : in_order (reverse town_map) ≡ town_map
 unfolding town_map
 town_in_order = refl
 
--- Answers. The names are compared as they are.
+-- Answers.
 
 abbrev rect : ℕ → ℕ → ℕ → ℕ → Rect
 rect left top right bottom = record { left = left; top = top; right = right; bottom = bottom }
 
-abbrev same : List ℕ → List ℕ
-same text = text
-
 -- the cafe is in the rectangle too, but shown from the next zoom on
-in_view : answer same town_rules (View (rect 1931000000 375990000 1931010000 376000000) 15) town_map
+in_view : answer town_rules (View (rect 1931000000 375990000 1931010000 376000000) 15) town_map
     ≡ MapRow (record { id = id Way 20; rule = 3; shape = LineShape; name = sharp; points = p3 ∷ p4 ∷ p5 ∷ [] }) ∷ MapRow building ∷ []
 unfolding town_rules town_map
 in_view = refl
 
-in_farther_view : answer same town_rules (View (rect 1931000000 375990000 1931010000 376000000) 14) town_map
+in_farther_view : answer town_rules (View (rect 1931000000 375990000 1931010000 376000000) 14) town_map
     ≡ MapRow (record { id = id Way 20; rule = 3; shape = LineShape; name = sharp; points = p3 ∷ p4 ∷ p5 ∷ [] }) ∷ []
 unfolding town_rules town_map
 in_farther_view = refl
 
-in_nearer_view : answer same town_rules (View (rect 1931001000 375999000 1931001000 375999000) 16) town_map
+in_nearer_view : answer town_rules (View (rect 1931001000 375999000 1931001000 375999000) 16) town_map
     ≡ MapRow (record { id = id Node 2; rule = 1; shape = PointShape; name = codes "Bo Bar"; points = p2 ∷ [] }) ∷ []
 unfolding town_rules town_map
 in_nearer_view = refl
 
-cafes : answer same town_rules (Category (codes "cafe") (rect 1930000000 370000000 1940000000 380000000)) town_map
+cafes : answer town_rules (Category (codes "cafe") (rect 1930000000 370000000 1940000000 380000000)) town_map
     ≡ PoiRow (record { id = id Node 2; category = codes "cafe"; name = codes "Bo Bar"; point = p2 }) ∷ []
 unfolding town_rules town_map
 cafes = refl
 
-streets : answer same town_rules (Prefix (codes "Stra")) town_map ≡ AddrRow (street p4) ∷ []
-unfolding town_rules town_map
+streets : answer town_rules (Prefix (codes "Stra")) town_map ≡ AddrRow (street p4) ∷ []
+unfolding town_rules town_map key
 streets = refl
 
-no_longer_prefix : answer same town_rules (Prefix (codes "Aldorfer")) town_map ≡ []
-unfolding town_rules town_map
+no_longer_prefix : answer town_rules (Prefix (codes "Aldorfer")) town_map ≡ []
+unfolding town_rules town_map key
 no_longer_prefix = refl
 
-houses : answer same town_rules (StreetQuery sharp) town_map ≡ AddrRow house ∷ []
-unfolding town_rules town_map
+houses : answer town_rules (StreetQuery sharp) town_map ≡ AddrRow house ∷ []
+unfolding town_rules town_map key
 houses = refl
 
 -- the first segment touches the west edge
-roads : answer same town_rules (Roads (rect 1931010000 375990000 1931030000 376000000)) town_map
+roads : answer town_rules (Roads (rect 1931010000 375990000 1931030000 376000000)) town_map
     ≡ SegmentRow (record { id = id Way 20; index = 0; a = road_node 3 p3; b = road_node 4 p4; dir = Both; value = codes "residential" })
     ∷ SegmentRow (record { id = id Way 20; index = 1; a = road_node 4 p4; b = road_node 5 p5; dir = Both; value = codes "residential" }) ∷ BanRow turn ∷ []
 unfolding town_rules town_map
 roads = refl
 
--- every name has the same key here
-by_key : answer (λ text. []) town_rules (Prefix (codes "zzz")) town_map
-    ≡ AddrRow (record { id = id Node 1; kind = Place; lang = []; name = codes "Aldorf"; number = []; point = p1 }) ∷ AddrRow (street p4) ∷ []
-unfolding town_rules town_map
-by_key = refl
+-- names are compared by their keys: the sharp s is a double one, whatever the case
+streets_by_key : answer town_rules (Prefix (codes "STRASS")) town_map ≡ AddrRow (street p4) ∷ []
+unfolding town_rules town_map key
+streets_by_key = refl
 
-houses_by_key : answer (λ text. []) town_rules (StreetQuery (codes "zzz")) town_map ≡ AddrRow house ∷ []
-unfolding town_rules town_map
+houses_by_key : answer town_rules (StreetQuery (codes "STRASSE")) town_map ≡ AddrRow house ∷ []
+unfolding town_rules town_map key
 houses_by_key = refl
 
 -- the whole key, not its beginning
-houses_of_longer_street : answer same town_rules (StreetQuery (codes "Stra")) town_map ≡ []
-unfolding town_rules town_map
+houses_of_longer_street : answer town_rules (StreetQuery (codes "Stra")) town_map ≡ []
+unfolding town_rules town_map key
 houses_of_longer_street = refl
 
-cafe_on_edges : answer same town_rules (Category (codes "cafe") (rect 1931001000 375999000 1931001000 375999000)) town_map
+cafe_on_edges : answer town_rules (Category (codes "cafe") (rect 1931001000 375999000 1931001000 375999000)) town_map
     ≡ PoiRow (record { id = id Node 2; category = codes "cafe"; name = codes "Bo Bar"; point = p2 }) ∷ []
 unfolding town_rules town_map
 cafe_on_edges = refl
 
-cafe_beside : answer same town_rules (Category (codes "cafe") (rect 1931001001 375999000 1931001002 375999000)) town_map ≡ []
+cafe_beside : answer town_rules (Category (codes "cafe") (rect 1931001001 375999000 1931001002 375999000)) town_map ≡ []
 unfolding town_rules town_map
 cafe_beside = refl
 
-other_category : answer same town_rules (Category (codes "caf") (rect 0 0 3600000000 1800000000)) town_map ≡ []
+other_category : answer town_rules (Category (codes "caf") (rect 0 0 3600000000 1800000000)) town_map ≡ []
 unfolding town_rules town_map
 other_category = refl
 
 -- the second segment and the turn at its end
-end_of_road : answer same town_rules (Roads (rect 1931020000 375998000 1931020000 375998000)) town_map
+end_of_road : answer town_rules (Roads (rect 1931020000 375998000 1931020000 375998000)) town_map
     ≡ SegmentRow (record { id = id Way 20; index = 1; a = road_node 4 p4; b = road_node 5 p5; dir = Both; value = codes "residential" }) ∷ BanRow turn ∷ []
 unfolding town_rules town_map
 end_of_road = refl
 
 -- a bounding box is met where no segment passes
-box_of_segment : answer same [] (Roads (rect 3 1 3 1)) (Road (record { id = id Way 1; rule = 0; value = []; dir = Forward; nodes = road_node 1 (point 1 1) ∷ road_node 2 (point 4 4) ∷ [] }) ∷ [])
+box_of_segment : answer [] (Roads (rect 3 1 3 1)) (Road (record { id = id Way 1; rule = 0; value = []; dir = Forward; nodes = road_node 1 (point 1 1) ∷ road_node 2 (point 4 4) ∷ [] }) ∷ [])
     ≡ SegmentRow (record { id = id Way 1; index = 0; a = road_node 1 (point 1 1); b = road_node 2 (point 4 4); dir = Forward; value = [] }) ∷ []
 box_of_segment = refl
 
 -- the box of all points, of which none is inside
-box_of_line : answer same (rule LineShape (codes "a") None 3 MapClass ∷ []) (View (rect 2 2 3 3) 3) (Map (record { id = id Way 1; rule = 0; shape = LineShape; name = []; points = point 9 9 ∷ point 1 4 ∷ point 4 1 ∷ [] }) ∷ [])
+box_of_line : answer (rule LineShape (codes "a") None 3 MapClass ∷ []) (View (rect 2 2 3 3) 3) (Map (record { id = id Way 1; rule = 0; shape = LineShape; name = []; points = point 9 9 ∷ point 1 4 ∷ point 4 1 ∷ [] }) ∷ [])
     ≡ MapRow (record { id = id Way 1; rule = 0; shape = LineShape; name = []; points = point 9 9 ∷ point 1 4 ∷ point 4 1 ∷ [] }) ∷ []
 box_of_line = refl
 

@@ -4,7 +4,7 @@ ghost use Rattle.std.specs.Prelude.{◌≡◌, ◌==◌, None, Some, length, sli
 ghost use Rattle.std.specs.List.{list_all, list_any};
 ghost use Rattle.std.specs.Ordering.{nat_cmp};
 ghost use Rattle.live_model.specs.Ids.{ordinal};
-ghost use Rattle.live_model.specs.Ordered.{IsRisingBy};
+ghost use Rattle.ordered_lists.specs.Ordered.{IsRisingBy};
 ghost use Rattle.stamp_core.specs.Heads.{IsGoodHead};
 ghost use Rattle.file_grammar.specs.declared.parts.Part.TheVariants.{Boxes, File};
 ghost use Rattle.file_grammar.specs.Files.{FileParts, facts_in, file_break, file_in, whole};

@@ -3,7 +3,7 @@
 ghost use Rattle.std.specs.Prelude.{◌≡◌, ◌==◌, ◌≤◌, ◌&&◌, ◌+◌, Ok, ℕ, List, length, true, IfOk};
 ghost use Rattle.std.specs.List.{list_all};
 ghost use Rattle.std.specs.Ordering.{nat_cmp};
-ghost use Rattle.live_model.specs.Ordered.{IsRisingBy};
+ghost use Rattle.ordered_lists.specs.Ordered.{IsRisingBy};
 ghost use Rattle.file_grammar.specs.BoxRules.{is_ordinal};
 ghost use Rattle.file_grammar.specs.Files.{mark_rises, rise_strictly, sums_from};
 ghost use Rattle.file_grammar.specs.Readings.{numbers_at};

@@ -2,7 +2,7 @@
 
 ghost use Rattle.std.specs.Prelude.{◌≡◌, ◌==◌, ◌||◌, not, Ok, IfOk};
 ghost use Rattle.std.specs.Ordering.{nat_cmp};
-ghost use Rattle.live_model.specs.Ordered.{IsRisingBy};
+ghost use Rattle.ordered_lists.specs.Ordered.{IsRisingBy};
 ghost use Rattle.file_grammar.specs.declared.parts.Part.TheVariants.{File};
 ghost use Rattle.file_grammar.specs.Facts.{first_failing};
 ghost use Rattle.file_grammar.specs.Files.{FileParts, whole};

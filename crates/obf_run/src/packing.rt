@@ -7,7 +7,7 @@ ghost use Rattle.std.specs.Ordering.{nat_cmp};
 ghost use Rattle.live_model.specs.declared.levels.Level.TheVariants.{Base};
 ghost use Rattle.live_model.specs.Fits.{FitsMap};
 ghost use Rattle.live_model.specs.Ids.{ordinal};
-ghost use Rattle.live_model.specs.Ordered.{IsRisingBy};
+ghost use Rattle.ordered_lists.specs.Ordered.{IsRisingBy};
 ghost use Rattle.live_model.specs.Records.{map_cmp};
 ghost use Rattle.outside.specs.Files.{FilesState};
 ghost use Rattle.stamp_core.specs.Heads.{IsGoodHead};

@@ -11,7 +11,7 @@ use Rattle.live_model.specs.declared.rules.Rule.{Rule}
 use Rattle.live_model.specs.Fits.{FitsMap}
 use Rattle.live_model.specs.Ids.{Id, IsId, ordinal}
 use Rattle.live_model.specs.Levels.{level_number}
-use Rattle.live_model.specs.Ordered.{IsRisingBy}
+use Rattle.ordered_lists.specs.Ordered.{IsRisingBy}
 use Rattle.live_model.specs.Records.{map_cmp}
 use Rattle.live_model.specs.Rules.{IsRule}
 use Rattle.stamp_core.specs.declared.head.Head.{Head}

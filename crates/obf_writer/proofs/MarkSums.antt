@@ -7,7 +7,7 @@ use Rattle.std.specs.declared.cmp.Ordering.TheVariants.{Less}
 use Rattle.std.proofs.lemmas.Bool.{and_from, and_parts, eq-eqb, eqb-true, leb-true, lt-ltb, or_left, or_right}
 use Rattle.std.proofs.lemmas.Bool.Decides.{nat_tests}
 use Rattle.live_model.specs.Ids.{Id, IsId, ordinal}
-use Rattle.live_model.specs.Ordered.{IsRisingBy}
+use Rattle.ordered_lists.specs.Ordered.{IsRisingBy}
 use Rattle.file_grammar.specs.BoxRules.{with_before, follows, is_ordinal}
 use Rattle.file_grammar.specs.Files.{mark_rises, marks_beside, rise_strictly, sums_from}
 use Rattle.boxed_laws.proofs.ObjectNumbers.{ordinal_is}

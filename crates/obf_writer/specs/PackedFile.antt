@@ -8,7 +8,7 @@ use Rattle.live_model.specs.declared.records.MapRec.{MapRec}
 use Rattle.live_model.specs.declared.records.Rec.TheVariants.{Map}
 use Rattle.live_model.specs.Fits.{FitsMap}
 use Rattle.live_model.specs.Ids.{ordinal}
-use Rattle.live_model.specs.Ordered.{IsRisingBy}
+use Rattle.ordered_lists.specs.Ordered.{IsRisingBy}
 use Rattle.live_model.specs.Records.{map_cmp}
 use Rattle.live_model.specs.Rules.{IsRule, rules_text}
 use Rattle.obf_wire.specs.Varint.{varint}

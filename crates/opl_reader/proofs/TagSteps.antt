@@ -9,7 +9,7 @@ use Rattle.std.proofs.lemmas.Cmp.{nat_list_cmp_total}
 use Rattle.live_model.specs.declared.objects.Tag.{Tag}
 use Rattle.live_model.specs.Objects.{AreTags}
 use Rattle.live_model.specs.FieldValues.{tags_from}
-use Rattle.live_model.proofs.PutAll.{rising-cons, put_all-rising, put_all-sorted}
+use Rattle.ordered_lists.proofs.PutAll.{rising-cons, put_all-rising, put_all-sorted}
 use Rattle.opl_reader.specs.TagOrder.{ComesFirst}
 
 -- a tag in front of tags that rise, which comes before the first of them

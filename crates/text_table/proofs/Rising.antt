@@ -11,7 +11,7 @@ use Rattle.std.proofs.lemmas.Bool.Decides.{nat_tests}
 use Rattle.std.proofs.lemmas.Cmp.{nat_list_cmp_total, tied_itself}
 use Rattle.std.proofs.lemmas.List.Elements.{All-from_recursion}
 use Rattle.std.proofs.lemmas.Option.{slice_get_read}
-use Rattle.live_model.specs.Ordered.{below, above}
+use Rattle.ordered_lists.specs.Ordered.{below, above}
 use Rattle.text_table.specs.Tables.{text_cmp, AreRising, with_text, IsText, IsTable, IsThere, IsGap}
 
 -- ---- the order of texts

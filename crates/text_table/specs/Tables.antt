@@ -7,7 +7,7 @@ use Rattle.std.specs.Ordering.{nat_cmp}
 use Rattle.std.specs.Cmp.Lexicographic.{slice_cmp}
 use Rattle.std.specs.declared.cmp.Ordering.{Ordering}
 use Rattle.std.specs.declared.cmp.Ordering.TheVariants.{Less, Greater}
-use Rattle.live_model.specs.Ordered.{IsRisingBy, put_by}
+use Rattle.ordered_lists.specs.Ordered.{IsRisingBy, put_by}
 use Rattle.obf_wire.specs.Fields.{field_spelling}
 
 -- ---- tables

@@ -1,6 +1,6 @@
 use Rattle.std.proofs.Common.{ℕ, List, sym, subst}
 use Rattle.std.specs.Ordering.{nat_cmp}
-use Rattle.live_model.specs.Ordered.{IsRisingBy}
+use Rattle.ordered_lists.specs.Ordered.{IsRisingBy}
 use Rattle.file_grammar.specs.Files.{sums_from}
 use Rattle.obf_reader.proofs.MarkLists.{if_ok, rising_where}
 use Rattle.obf_reader.proofs.mark_list.marks_where.Goals as goal

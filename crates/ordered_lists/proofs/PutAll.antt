@@ -12,7 +12,7 @@ use Rattle.std.specs.Cmp.{IsTotalOrder}
 use Rattle.std.proofs.lemmas.List.Sorted.{sorted_far, ranks_by}
 use Rattle.std.proofs.lemmas.List.Elements.{filter-append}
 use Rattle.std.proofs.lemmas.List.{reverse-append, append-nil}
-use Rattle.live_model.specs.Ordered.{IsRisingBy, below, above, put_by, without_by, put_all}
+use Rattle.ordered_lists.specs.Ordered.{IsRisingBy, below, above, put_by, without_by, put_all}
 
 module _ {A : Type 0} where
   -- what holds of each item holds of each that is kept
