@@ -5,6 +5,7 @@ use Rattle.std.specs.declared.cmp.Ordering.TheVariants.{Less}
 use Rattle.std.specs.Fmt.{digits}
 use Rattle.std.specs.Str.{is_utf8, chars}
 use Rattle.std.proofs.Math.Utf8.{encode}
+use Rattle.caseless.proofs.Computing.{caseless}
 use Rattle.name_fold.specs.Keys.{key}
 use Rattle.text_pieces.specs.Lines.{lines_from, fields_from}
 use Rattle.text_pieces.specs.Numbers.{number_of}
@@ -837,15 +838,15 @@ unfolding town_rules town_map
 cafes = refl
 
 streets : answer town_rules (Prefix (codes "Stra")) town_map ≡ AddrRow (street p4) ∷ []
-unfolding town_rules town_map key
+unfolding town_rules town_map key caseless chars encode
 streets = refl
 
 no_longer_prefix : answer town_rules (Prefix (codes "Aldorfer")) town_map ≡ []
-unfolding town_rules town_map key
+unfolding town_rules town_map key caseless chars encode
 no_longer_prefix = refl
 
 houses : answer town_rules (StreetQuery sharp) town_map ≡ AddrRow house ∷ []
-unfolding town_rules town_map key
+unfolding town_rules town_map key caseless chars encode
 houses = refl
 
 -- the first segment touches the west edge
@@ -857,16 +858,16 @@ roads = refl
 
 -- names are compared by their keys: the sharp s is a double one, whatever the case
 streets_by_key : answer town_rules (Prefix (codes "STRASS")) town_map ≡ AddrRow (street p4) ∷ []
-unfolding town_rules town_map key
+unfolding town_rules town_map key caseless chars encode
 streets_by_key = refl
 
 houses_by_key : answer town_rules (StreetQuery (codes "STRASSE")) town_map ≡ AddrRow house ∷ []
-unfolding town_rules town_map key
+unfolding town_rules town_map key caseless chars encode
 houses_by_key = refl
 
 -- the whole key, not its beginning
 houses_of_longer_street : answer town_rules (StreetQuery (codes "Stra")) town_map ≡ []
-unfolding town_rules town_map key
+unfolding town_rules town_map key caseless chars encode
 houses_of_longer_street = refl
 
 cafe_on_edges : answer town_rules (Category (codes "cafe") (rect 1931001000 375999000 1931001000 375999000)) town_map
