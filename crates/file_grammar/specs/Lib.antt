@@ -6,4 +6,8 @@ pub mod Facts
 pub mod Sections
 pub mod BoxRules
 pub mod MapRules
+pub mod RecordRules
+pub mod PoiRules
+pub mod RoadRules
+pub mod AddressRules
 pub mod Files
