@@ -1,10 +1,8 @@
-//! Tests of runs and of the outside: what no contract says, with values from outside.
+//! Tests of runs: what no contract says, with values from outside.
 #![tactic(auto)]
 
 #[cfg(test)]
 mod files;
-#[cfg(test)]
-mod outside_calls;
 #[cfg(test)]
 mod real;
 #[cfg(test)]
