@@ -8,7 +8,8 @@ use Rattle.live_model.specs.declared.points.Rect.{Rect}
 use Rattle.live_model.specs.Geometry.{middle}
 use Rattle.box_tree.specs.Packing.{code}
 use Rattle.boxed_write.specs.Packed.{Packing, records_behind}
-use Rattle.boxed_write.specs.Classes.{Placed, IsPlaced, items_of, boxes_of, nonempty, with_texts}
+use Rattle.boxed_write.specs.Classes.{Placed, IsPlaced, held, items_of, boxes_of, nonempty, with_texts}
+use denote.Ref.{Bor}
 
 module _ {A : Type 0} where
   -- the list after its first item
@@ -26,14 +27,15 @@ items_more [] p = refl
 items_more {A} (q ∷ qs) p = ap (λ (ms : List A). q.2.now ∷ ms) (items_more qs p)
 
 -- one more record is placed
-pub placed_step : {A : Type 0} (got now : List (Placed A)) (p : Placed A) (rest all : List A) → 1 ≤ length rest → p.2.now ≡ get_or rest 0 p.2.now → now ≡ got ++ p ∷ [] → items_of got ++ rest ≡ all → items_of now ++ take (length rest - 1) (drop 1 rest) ≡ all
+pub placed_step : {A : Type 0} (got now : List (Placed A)) (p : Placed A) (rest : List (Bor A)) (all : List A) → 1 ≤ length rest → p.2 ≡ get_or rest 0 p.2 → now ≡ got ++ p ∷ [] → items_of got ++ held rest ≡ all
+    → items_of now ++ held (take (length rest - 1) (drop 1 rest)) ≡ all
 placed_step got now p [] all some is more done = absurd (omega arith)
 placed_step {A} got now p (x ∷ xs) all some is more done =
-    ap (λ (rs : List A). items_of now ++ rs) (tail_is x xs)
-    ∙ ap (λ (ps : List (Placed A)). items_of ps ++ xs) more
-    ∙ ap (λ (rs : List A). rs ++ xs) (items_more got p)
-    ∙ append_assoc (items_of got) (p.2.now ∷ []) xs
-    ∙ ap (λ (r : A). items_of got ++ r ∷ xs) is
+    ap (λ (rs : List (Bor A)). items_of now ++ held rs) (tail_is x xs)
+    ∙ ap (λ (ps : List (Placed A)). items_of ps ++ held xs) more
+    ∙ ap (λ (rs : List A). rs ++ held xs) (items_more got p)
+    ∙ append_assoc (items_of got) (p.2.now ∷ []) (held xs)
+    ∙ ap (λ (r : Bor A). items_of got ++ r.now ∷ held xs) is
     ∙ done
 
 module _ {A : Type 0} (packing : Packing A) where

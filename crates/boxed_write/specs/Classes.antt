@@ -25,6 +25,10 @@ nonempty texts = filter (λ text. nat_lt 0 (length text)) texts
 abbrev pub with_texts : List (List ℕ) → List (List ℕ) → List (List ℕ)
 with_texts others texts = put_all text_cmp (λ text. text) texts others
 
+-- the records that are borrowed
+abbrev pub held : {A : Type 0} → List (Bor A) → List A
+held borrowed = map (λ r. r.now) borrowed
+
 -- the code of the centre of a record's box, the box, and the record
 abbrev pub Placed : Type 0 → Type 0
 Placed A = ℕ × Rect × Bor A

@@ -4,7 +4,7 @@ ghost use Rattle.std.specs.Prelude.{◌≡◌, map, IfOk};
 ghost use Rattle.std.specs.List.{AllByRecursion};
 ghost use Rattle.std.specs.List.Sorted.{IsSorted, IsPermutation};
 ghost use Rattle.boxed_write.specs.Packed.{packing_cmp, sorted_by};
-ghost use Rattle.boxed_write.specs.Classes.{items_of, IsPlaced, placed_cmp};
+ghost use Rattle.boxed_write.specs.Classes.{held, items_of, IsPlaced, placed_cmp};
 
 use crate::class::WriteClass;
 use box_tree::code;
@@ -19,10 +19,10 @@ pub(crate) type Placed<'a, R> = (u64, Rect, &'a R);
 /// The records in packing order, each with its box.
 pub(crate) fn packed<'a, C: WriteClass>(
     alloc: Global,
-    records: &'a [C::Record],
+    records: &[&'a C::Record],
 ) -> Mem<Vec<Placed<'a, C::Record>>>
-    requires { AllByRecursion C.fits records.now }
-    ensures order { IfOk result (λ order. items_of order.items ≡ sorted_by (packing_cmp C.packing) records.now) }
+    requires { AllByRecursion C.fits (held records.now) }
+    ensures order { IfOk result (λ order. items_of order.items ≡ sorted_by (packing_cmp C.packing) (held records.now)) }
     ensures placed { IfOk result (λ order. AllByRecursion (IsPlaced C.packing) order.items) }
 {
     let mut order = placed::<C>(alloc, records)?;
@@ -33,16 +33,16 @@ pub(crate) fn packed<'a, C: WriteClass>(
 /// Each record with its box and the code of the box's centre.
 fn placed<'a, C: WriteClass>(
     alloc: Global,
-    records: &'a [C::Record],
+    records: &[&'a C::Record],
 ) -> Mem<Vec<Placed<'a, C::Record>>>
-    ensures records { IfOk result (λ placed. items_of placed.items ≡ records.now) }
+    ensures records { IfOk result (λ placed. items_of placed.items ≡ held records.now) }
     ensures placed { IfOk result (λ placed. AllByRecursion (IsPlaced C.packing) placed.items) }
 {
     let mut placed = Vec::with_capacity(alloc, records.len())?;
     let mut rest = records;
     while let [record, after @ ..] = rest {
         let rect = C::rect(record);
-        placed.push((code(&rect), rect, record))?;
+        placed.push((code(&rect), rect, *record))?;
         rest = after;
     }
     Ok(placed)

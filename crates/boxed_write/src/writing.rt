@@ -3,7 +3,7 @@
 ghost use Rattle.std.specs.Prelude.{◌≡◌, ◌*◌, ◌<◌, ◌++◌, length, flat_map, map, IfOk, OnOk, OnErr};
 ghost use Rattle.std.specs.List.{AllByRecursion};
 ghost use Rattle.boxed_write.specs.Packed.{cut, cuts, sorted_by, leaf, leaves_from, block, packed};
-ghost use Rattle.boxed_write.specs.Classes.{items_of, IsPlaced};
+ghost use Rattle.boxed_write.specs.Classes.{held, items_of, IsPlaced};
 ghost use Rattle.box_tree.specs.Trees.{around};
 
 use crate::blocks::{around_placed, put_block};
@@ -32,9 +32,9 @@ struct Section {
 ///
 /// It takes n log n time. The box of each record is computed once, and its fields are written once, where they stand among
 /// the blocks.
-pub fn write<C: WriteClass>(alloc: Global, records: &[C::Record], out: &mut Vec<u8>) -> Mem<()>
-    requires { AllByRecursion C.fits records.now }
-    ensures ok { OnOk result (out.new.items ≡ out.old.items ++ packed C.packing records.now) }
+pub fn write<C: WriteClass>(alloc: Global, records: &[&C::Record], out: &mut Vec<u8>) -> Mem<()>
+    requires { AllByRecursion C.fits (held records.now) }
+    ensures ok { OnOk result (out.new.items ≡ out.old.items ++ packed C.packing (held records.now)) }
     ensures err { OnErr result (out.new.items ≡ out.old.items) }
 {
     let section = section_of::<C>(alloc, records)?;
@@ -58,9 +58,9 @@ fn put_both(first: &[u8], second: &[u8], out: &mut Vec<u8>) -> Mem<()>
 }
 
 /// The bytes of the section.
-fn section_of<C: WriteClass>(alloc: Global, records: &[C::Record]) -> Mem<Section>
-    requires { AllByRecursion C.fits records.now }
-    ensures { IfOk result (λ section. section.tree.items ++ section.blocks.items ≡ packed C.packing records.now) }
+fn section_of<C: WriteClass>(alloc: Global, records: &[&C::Record]) -> Mem<Section>
+    requires { AllByRecursion C.fits (held records.now) }
+    ensures { IfOk result (λ section. section.tree.items ++ section.blocks.items ≡ packed C.packing (held records.now)) }
 {
     let order = packed::<C>(alloc, records)?;
     let mut blocks = Out::new(alloc);

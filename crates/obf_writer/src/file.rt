@@ -11,6 +11,7 @@ ghost use Rattle.ordered_lists.specs.Ordered.{IsRisingBy};
 ghost use Rattle.live_model.specs.Records.{map_cmp};
 ghost use Rattle.stamp_core.specs.Heads.{IsGoodHead};
 ghost use Rattle.stamp_core.specs.Hours.{IsCivilHour};
+ghost use Rattle.boxed_write.specs.Classes.{held};
 ghost use Rattle.file_grammar.specs.Files.{head_numbers, hour_number, is_head};
 ghost use Rattle.obf_wire.specs.Fields.{section, number_field, short_field};
 ghost use Rattle.obf_writer.specs.PackedFile.{IsPackedFile, head_bytes, no_addresses, no_roads};
@@ -83,7 +84,7 @@ pub fn write_file(
     ensures { IfOk result (λ bytes. IsPackedFile bytes.items (head_numbers head.now) rules.now (map ordinal marks.now) records.now) }
 {
     let mut map = Vec::new(alloc);
-    map_section::write(alloc, records, rules, &mut map)?;
+    map_section::write(alloc, &borrowed(alloc, records)?, rules, &mut map)?;
     let marks = marks_bytes(alloc, marks)?;
     let head = head_bytes(alloc, head)?;
     let mut out = Out::new(alloc);
@@ -93,6 +94,17 @@ pub fn write_file(
     out.put_section(MARKS_FIELD, &marks)?;
     out.put_number(LAST_VERSION_FIELD, VERSION)?;
     Ok(out.finish())
+}
+
+/// The records, each borrowed.
+fn borrowed(alloc: Global, records: &[MapRec]) -> Mem<Vec<&MapRec>>
+    ensures { IfOk result (λ all. held all.items ≡ records.now) }
+{
+    let mut all = Vec::with_capacity(alloc, records.len())?;
+    for record in records {
+        all.push(record)?;
+    }
+    Ok(all)
 }
 
 /// Appends the version, the head and the text of the rules.
