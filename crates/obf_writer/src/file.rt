@@ -84,7 +84,8 @@ pub fn write_file(
     ensures { IfOk result (λ bytes. IsPackedFile bytes.items (head_numbers head.now) rules.now (map ordinal marks.now) records.now) }
 {
     let mut map = Vec::new(alloc);
-    map_section::write(alloc, &borrowed(alloc, records)?, rules, &mut map)?;
+    let drawn = borrowed(alloc, records)?;
+    map_section::write(alloc, drawn.as_slice(), rules, &mut map)?;
     let marks = marks_bytes(alloc, marks)?;
     let head = head_bytes(alloc, head)?;
     let mut out = Out::new(alloc);
@@ -101,8 +102,10 @@ fn borrowed(alloc: Global, records: &[MapRec]) -> Mem<Vec<&MapRec>>
     ensures { IfOk result (λ all. held all.items ≡ records.now) }
 {
     let mut all = Vec::with_capacity(alloc, records.len())?;
-    for record in records {
+    let mut rest = records;
+    while let [record, after @ ..] = rest {
         all.push(record)?;
+        rest = after;
     }
     Ok(all)
 }

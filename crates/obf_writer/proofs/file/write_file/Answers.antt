@@ -1,4 +1,7 @@
 use Rattle.std.proofs.Common.{◌≡◌, ◌^◌, ◌<◌, ◌++◌, [], ℕ, List, length, map, ap, sym, subst, ◌∙◌, arith}
+use Rattle.std.specs.List.{AllByRecursion}
+use Rattle.boxed_write.specs.Classes.{held}
+use Rattle.live_model.specs.Fits.{FitsMap}
 use Rattle.live_model.specs.Ids.{ordinal}
 use Rattle.live_model.specs.Rules.{rules_text}
 use Rattle.file_grammar.specs.Files.{head_numbers}
@@ -10,13 +13,17 @@ use Rattle.obf_writer.proofs.PackedFiles.{packed_file_law}
 use Rattle.obf_writer.proofs.Parts.{file_is}
 use Rattle.obf_writer.proofs.file.write_file.Goals as goal
 
+pub write-requires : goal.write-requires
+write-requires c = subst (AllByRecursion (FitsMap c.args.rules.now)) (sym (ap held c.as_slice.ensures.value ∙ c.in_ok-drawn.ensures)) c.requires.fit
+
 pub returns : goal.returns
 unfolding packed_file
 returns c =
     let numbers : List ℕ = head_bytes (head_numbers c.args.head.now) in
     let head_is : c.deref.result.now ≡ numbers = c.deref.ensures.value ∙ c.in_ok-head.ensures.bytes in
+    let drawn_are : held c.as_slice.result.now ≡ c.args.records.now = ap held c.as_slice.ensures.value ∙ c.in_ok-drawn.ensures in
     let map_is : c.deref-2.result.now ≡ packed_map c.args.records.now =
-    c.deref-2.ensures.value ∙ c.in_ok-write.ensures.ok ∙ ap (λ (bytes : List ℕ). bytes ++ packed_map c.args.records.now) c.new-map.ensures.items in
+    c.deref-2.ensures.value ∙ c.in_ok-write.ensures.ok ∙ ap (λ (bytes : List ℕ). bytes ++ packed_map (held c.as_slice.result.now)) c.new-map.ensures.items ∙ ap packed_map drawn_are in
     let marks_are : c.deref-3.result.now ≡ marks_bytes (map ordinal c.args.marks.now) = c.deref-3.ensures.value ∙ c.in_ok-marks.ensures.bytes in
     let front : List ℕ = c.new-out.result ++ number_field 1 1 in
     let packed : c.finish.result.items ≡ packed_file (head_numbers c.args.head.now) c.args.rules.now (map ordinal c.args.marks.now) c.args.records.now =
