@@ -18,5 +18,6 @@ mod trees;
 mod writing;
 
 pub use class::WriteClass;
+pub use order::borrowed;
 pub use parts::{add_text, put_point_list, text_number};
 pub use writing::write;

@@ -16,6 +16,19 @@ use std::cmp::Ordering;
 /// The code of the centre of a record's box, the box, and the record.
 pub(crate) type Placed<'a, R> = (u64, Rect, &'a R);
 
+/// The items of a list, each borrowed.
+pub fn borrowed<T>(alloc: Global, items: &[T]) -> Mem<Vec<&T>>
+    ensures { IfOk result (λ all. held all.items ≡ items.now) }
+{
+    let mut all = Vec::with_capacity(alloc, items.len())?;
+    let mut rest = items;
+    while let [item, after @ ..] = rest {
+        all.push(item)?;
+        rest = after;
+    }
+    Ok(all)
+}
+
 /// The records in packing order, each with its box.
 pub(crate) fn packed<'a, C: WriteClass>(
     alloc: Global,

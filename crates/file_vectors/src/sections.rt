@@ -7,6 +7,7 @@ ghost use Rattle.boxed_exact.specs.Sides.{AreRising};
 use crate::wire::{next_range, put_break};
 use boxed_check::{Kept, check};
 use boxed_exact::Around;
+use boxed_write::borrowed;
 use derive_map::derive_all;
 use entity_store::Store;
 use live_model::{Mem, Steps};
@@ -101,6 +102,6 @@ fn packed<L: Ledger>(alloc: Global, rules: &Rules, store: &Store, blank: Blank) 
     let mut steps = Steps::<L>::new(blank);
     let records = derive_all(alloc, rules, store, &mut steps)?;
     let mut bytes = Vec::new(alloc);
-    write(alloc, &records, rules, &mut bytes)?;
+    write(alloc, &borrowed(alloc, &records)?, rules, &mut bytes)?;
     Ok(bytes)
 }

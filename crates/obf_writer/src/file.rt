@@ -11,12 +11,12 @@ ghost use Rattle.ordered_lists.specs.Ordered.{IsRisingBy};
 ghost use Rattle.live_model.specs.Records.{map_cmp};
 ghost use Rattle.stamp_core.specs.Heads.{IsGoodHead};
 ghost use Rattle.stamp_core.specs.Hours.{IsCivilHour};
-ghost use Rattle.boxed_write.specs.Classes.{held};
 ghost use Rattle.file_grammar.specs.Files.{head_numbers, hour_number, is_head};
 ghost use Rattle.obf_wire.specs.Fields.{section, number_field, short_field};
 ghost use Rattle.obf_writer.specs.PackedFile.{IsPackedFile, head_bytes, no_addresses, no_roads};
 
 use crate::marks::marks_bytes;
+use boxed_write::borrowed;
 use live_model::{MapRec, ObjId};
 use obf_wire::Out;
 use owned_data::Mem;
@@ -95,19 +95,6 @@ pub fn write_file(
     out.put_section(MARKS_FIELD, &marks)?;
     out.put_number(LAST_VERSION_FIELD, VERSION)?;
     Ok(out.finish())
-}
-
-/// The records, each borrowed.
-fn borrowed(alloc: Global, records: &[MapRec]) -> Mem<Vec<&MapRec>>
-    ensures { IfOk result (λ all. held all.items ≡ records.now) }
-{
-    let mut all = Vec::with_capacity(alloc, records.len())?;
-    let mut rest = records;
-    while let [record, after @ ..] = rest {
-        all.push(record)?;
-        rest = after;
-    }
-    Ok(all)
 }
 
 /// Appends the version, the head and the text of the rules.
