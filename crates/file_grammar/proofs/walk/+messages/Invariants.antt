@@ -12,7 +12,7 @@ decreases-inside l = 2 * (l.field.now.to - l.field.now.from) + 2
 
 abbrev pub invariant-form-loop-field : goal.invariant-form-loop-field
 invariant-form-loop-field l =
-    IsWindow l.cursor × (l.cursor.bytes ≡ l.window.bytes) × (l.cursor.end ≡ l.window.to) × (l.window.from ≤ l.cursor.place)
+    IsWindow l.cursor × (l.cursor.bytes ≡ l.window.bytes.now) × (l.cursor.end ≡ l.window.to) × (l.window.from ≤ l.cursor.place)
     × (break_in (message_from l.part l.last l.cursor) ≡ break_in (message_at l.part (range_of l.window)))
 
 abbrev pub decreases-form-loop-field : goal.decreases-form-loop-field
