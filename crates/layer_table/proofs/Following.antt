@@ -45,7 +45,7 @@ module _ {K : Type 0} (cmp : K → K → Ordering) (o : IsTotalOrder cmp) where
   turned r s e f = e ∙ ap ordering_reverse f
 
   -- what is above a key that is above is above
-  above_more : (last : Option K) (x j : K) → is_above cmp last j ≡ true → cmp j x ≡ Less → is_above cmp last x ≡ true
+  pub above_more : (last : Option K) (x j : K) → is_above cmp last j ≡ true → cmp j x ≡ Less → is_above cmp last x ≡ true
   above_more None x j up less = refl
   above_more (Some k) x j up less = one (cmp j k) refl up
     where

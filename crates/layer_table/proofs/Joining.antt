@@ -30,10 +30,10 @@ module _ {K W : Type 0} (cmp : K → K → Ordering) (o : IsTotalOrder cmp) wher
   abbrev pub AreBelow : K → List (K × W) → Type 0
   AreBelow k ps = AllByRecursion (λ (p : K × W). cmp p.0 k ≡ Less) ps
 
-  all_lower : (k : K) (ps : List (K × W)) → AreBelow k ps → below cmp key_of k ps ≡ ps
+  pub all_lower : (k : K) (ps : List (K × W)) → AreBelow k ps → below cmp key_of k ps ≡ ps
   all_lower k ps all = filter_all (λ (p : K × W). is_lt (cmp p.0 k)) ps (all_map (λ (p : K × W). cmp p.0 k ≡ Less) (λ (p : K × W). is_lt (cmp p.0 k) ≡ true) ps (λ p e. ap is_lt e) all)
 
-  none_higher : (k : K) (ps : List (K × W)) → AreBelow k ps → above cmp key_of k ps ≡ []
+  pub none_higher : (k : K) (ps : List (K × W)) → AreBelow k ps → above cmp key_of k ps ≡ []
   none_higher k ps all = filter_no (λ (p : K × W). is_gt (cmp p.0 k)) ps (all_map (λ (p : K × W). cmp p.0 k ≡ Less) (λ (p : K × W). is_gt (cmp p.0 k) ≡ false) ps (λ p e. ap is_gt e) all)
 
   -- a change above all others comes last

@@ -4,3 +4,4 @@ pub mod Following
 pub mod Joining
 pub mod Piling
 pub mod Stacking
+pub mod Going

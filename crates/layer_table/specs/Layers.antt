@@ -1,6 +1,6 @@
 -- A finite map is a list of pairs whose keys rise. A layer is such a list of changes: a key with a value sets it, one without removes it.
-use Rattle.std.specs.Prelude.{◌≡◌, ℕ, ◌+◌, ◌||◌, List, [], ◌∷◌, Bool, true, if◌then◌else◌, Option, Some, None, find, filter, length}
-use Rattle.std.specs.Option.{option_map, option_copied, is_some}
+use Rattle.std.specs.Prelude.{◌≡◌, ℕ, ◌+◌, ◌||◌, List, [], ◌∷◌, Bool, true, if◌then◌else◌, Option, Some, None, find, filter, map, length, ◌++◌}
+use Rattle.std.specs.Option.{option_map, option_copied, option_to_list, is_some}
 use Rattle.std.specs.List.{AllByRecursion}
 use Rattle.std.specs.Ordering.{is_eq, is_gt, is_lt}
 use Rattle.std.specs.declared.cmp.Ordering.{Ordering}
@@ -37,6 +37,15 @@ changes_in (l ∷ ls) = changes_in ls + length l
 abbrev pub kept : {K V : Type 0} → Bool → List (K × Option V) → List (K × Option V)
 kept {K} {V} removals cs = filter (λ (c : K × Option V). removals || is_some c.1) cs
 
+-- the values that changes set
+abbrev pub values_set : {V : Type 0} → List (Option V) → List V
+values_set [] = []
+values_set (w ∷ ws) = option_to_list w ++ values_set ws
+
+-- the value of a pair
+abbrev pub value_of : {K V : Type 0} → K × V → V
+value_of p = p.1
+
 -- the key of a pair
 abbrev pub key_of : {K V : Type 0} → K × V → K
 key_of p = p.0
@@ -71,6 +80,15 @@ module _ {K : Type 0} (cmp : K → K → Ordering) where
   -- the first pair whose key is above this one, or the first of all
   abbrev pub next_of : {V : Type 0} → Option K → List (K × V) → Option (K × V)
   next_of {V} last ps = find (λ (p : K × V). is_above last p.0) ps
+
+  -- the values of the keys above this one, or of all
+  abbrev pub values_above : {V : Type 0} → Option K → List (K × V) → List V
+  values_above {V} last ps = map value_of (filter (λ (p : K × V). is_above last p.0) ps)
+
+  -- the same of a table, if there is one
+  abbrev pub values_in : {V : Type 0} → Option K → Option (Table K V) → List V
+  values_in last None = []
+  values_in last (Some t) = values_above last t.map
 
   -- the keys rise strictly
   abbrev pub IsMap : {V : Type 0} → List (K × V) → Type 0

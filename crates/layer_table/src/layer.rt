@@ -1,11 +1,11 @@
 //! One layer of changes.
 
-ghost use Rattle.std.specs.Prelude.{◌≡◌, ◌↔◌, [], ◌<◌, ◌≤◌, Option, Some, None, length, zip, IfOk, IfSome, IfNone, IsTrue, IsSome};
+ghost use Rattle.std.specs.Prelude.{◌≡◌, ◌↔◌, [], ◌<◌, ◌≤◌, Option, Some, None, length, map, zip, IfOk, IfSome, IfNone, IsTrue, IsSome};
 ghost use Rattle.std.specs.Option.{option_map, option_copied};
 ghost use Rattle.std.specs.List.{slice_get};
 ghost use Rattle.std.specs.Vec.{vec_len};
 ghost use Rattle.ordered_lists.specs.Ordered.{put_all};
-ghost use Rattle.layer_table.specs.Layers.{IsMap, is_first, pair_at, change_seen, key_of, next_of};
+ghost use Rattle.layer_table.specs.Layers.{IsMap, is_first, pair_at, change_seen, key_of, next_of, value_of};
 
 use crate::pile::Pile;
 use owned_data::Mem;
@@ -83,6 +83,14 @@ impl<K: Ord, V> Layer<K, V> {
         ensures rising { IsMap K.cmp self.now }
     {
         self.keys.len()
+    }
+
+    /// What stands beside the keys.
+    pub fn values(&self) -> &[Option<V>]
+        ensures values { result.now ≡ map value_of self.now }
+        ensures rising { IsMap K.cmp self.now }
+    {
+        self.values.as_slice()
     }
 
     /// Where a key stands.

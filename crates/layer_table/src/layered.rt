@@ -1,14 +1,15 @@
 //! Layers over one another.
 
-ghost use Rattle.std.specs.Prelude.{◌≡◌, ◌≤◌, ◌<◌, ◌+◌, [], length, IfOk, OnErr, OnOk};
+ghost use Rattle.std.specs.Prelude.{◌≡◌, ◌≤◌, ◌<◌, ◌+◌, [], length, map, IfOk, OnErr, OnOk};
 ghost use Rattle.std.specs.Option.{option_copied, option_map};
 ghost use Rattle.layer_table.specs.Layers as Layers;
-ghost use Rattle.layer_table.specs.Layers.{laid, under, pair_at, value_at, both_seen, changed_to, next_of, least_in, IsMap};
+ghost use Rattle.layer_table.specs.Layers.{laid, under, pair_at, value_at, both_seen, changed_to, next_of, least_in, value_of, IsMap};
 ghost use Rattle.std.specs.List.{AllByRecursion};
 
 use crate::layer::Layer;
 use crate::merging::{count_changes, merged};
 use crate::pile::Pile;
+use crate::values::Values;
 use owned_data::{Mem, NoMemory};
 use std::alloc::Global;
 use std::cmp::Ordering;
@@ -89,9 +90,20 @@ impl<K: Ord, V> Layered<K, V> {
 }
 
 impl<K: Ord, V> Layered<K, V> {
+    /// The values in the order of their keys.
+    pub fn values(&self) -> Values<'_, K, V>
+        ensures { result ≡ map value_of self.now.map }
+    {
+        match self.layers.as_slice() {
+            [layer] => Values::alone(layer.values()),
+            _ => Values::among(self),
+        }
+    }
+
     /// The pair of the least key above this one, or the first pair. `None` exactly where there is none.
     pub fn next_after(&self, key: Option<&K>) -> Option<(&K, &V)>
-        ensures { option_map both_seen result ≡ next_of K.cmp (option_copied key.entry) self.now.map }
+        ensures pair { option_map both_seen result ≡ next_of K.cmp (option_copied key.entry) self.now.map }
+        ensures rising { IsMap K.cmp self.now.map }
     {
         next_in(&self.layers, key)
     }

@@ -11,6 +11,8 @@ mod layer;
 mod layered;
 mod merging;
 mod pile;
+mod values;
 
 pub use layer::Layer;
 pub use layered::Layered;
+pub use values::Values;
