@@ -1,5 +1,5 @@
 -- The map records of a whole store, object by object.
-use Rattle.std.proofs.Common.{◌≡◌, ◌==◌, ℕ, ◌≤◌, List, [], ◌∷◌, ◌++◌, length, take, false, cond, Option, Some, None, refl, sym, ◌∙◌, ap, arith, map, filter_map, eq-eqb}
+use Rattle.std.proofs.Common.{◌≡◌, ◌==◌, ℕ, ◌≤◌, List, [], ◌∷◌, ◌++◌, length, take, false, cond, Option, Some, None, refl, sym, ◌∙◌, ap, arith, map, filter_map, eq-eqb, append_assoc}
 use Rattle.std.specs.List.{AllByRecursion, cons_option, flat_map}
 use Rattle.std.specs.Ordering.{nat_cmp}
 use Rattle.std.specs.declared.cmp.Ordering.TheVariants.{Less}
@@ -83,8 +83,15 @@ drawn_is rules store rising =
     (all_weaker (λ e. entity_at store e.id ≡ Some e) (λ e. filter_map as_map (records rules store e.id) ≡ made rules store e) (drawn_of_one rules store) store (all_found store rising))
 
 -- the records of all objects that there are
-pub drawn_whole : (rules : List Rule) (store entities : List Entity) (n : ℕ) (records : List MapRec) → IsRising store → entities ≡ store → length entities ≤ n
-    → records ≡ flat_map (made rules store) (take n store) → records ≡ drawn_of rules store
-drawn_whole rules store entities n records rising same all are =
-    let long : length entities ≡ length store = ap length same in
-    are ∙ ap (flat_map (made rules store)) (take_all n store (omega arith)) ∙ sym (drawn_is rules store rising)
+pub drawn_whole : (rules : List Rule) (store left : List Entity) (records : List MapRec) → IsRising store → left ≡ []
+    → records ++ flat_map (made rules store) left ≡ flat_map (made rules store) store → records ≡ drawn_of rules store
+drawn_whole rules store left records rising none are =
+    sym (append-nil records) ∙ sym (ap (λ es. records ++ flat_map (made rules store) es) none) ∙ are ∙ sym (drawn_is rules store rising)
+
+-- the records of one object more
+pub one_more : (rules : List Rule) (store look left rest : List Entity) (e : Entity) (before after whole : List MapRec) → look ≡ store → left ≡ e ∷ rest → after ≡ before ++ map_records rules e (referred_in look e)
+    → before ++ flat_map (made rules store) left ≡ whole → after ++ flat_map (made rules store) rest ≡ whole
+one_more rules store look left rest e before after whole same first is so_far =
+    ap (λ ms. ms ++ flat_map (made rules store) rest) (is ∙ ap (λ s. before ++ map_records rules e (referred_in s e)) same)
+    ∙ append_assoc before (made rules store e) (flat_map (made rules store) rest)
+    ∙ sym (ap (λ es. before ++ flat_map (made rules store) es) first) ∙ so_far

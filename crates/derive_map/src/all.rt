@@ -26,15 +26,15 @@ pub fn derive_all<L: Ledger>(
     store: &Store,
     steps: &mut Steps<L>,
 ) -> Mem<Vec<MapRec>>
-    ensures records { IfOk result (λ records. records.items ≡ drawn_of rules.now store.now) }
+    ensures records { IfOk result (λ records. records.items ≡ drawn_of rules.now store.now.entities) }
     ensures sorted { IfOk result (λ records. IsSorted map_cmp records.items) }
-    ensures fit { IsStore store.now → IfOk result (λ records. AllByRecursion (FitsMap rules.now) records.items) }
-    ensures counted { OnOk result (steps.new ≡ steps.old + length store.now) }
-    ensures most { steps.new ≤ steps.old + length store.now }
+    ensures fit { IsStore store.now.entities → IfOk result (λ records. AllByRecursion (FitsMap rules.now) records.items) }
+    ensures counted { OnOk result (steps.new ≡ steps.old + length store.now.entities) }
+    ensures most { steps.new ≤ steps.old + length store.now.entities }
 {
     let look = Look::now(store);
     let mut records = Vec::new(alloc);
-    for entity in store.as_slice() {
+    for entity in store.entities() {
         steps.tick();
         put_records(alloc, rules, &look, entity, &mut records)?;
     }

@@ -1,47 +1,59 @@
 //! Look-ups in the objects of a store.
 
-ghost use Rattle.std.specs.Prelude.{◌≡◌, ◌==◌, find, count_by, nat_lt, nat_le, IfSome};
+ghost use Rattle.std.specs.Prelude.{◌≡◌, ◌==◌, find, IfSome};
 ghost use Rattle.std.specs.Option.{option_copied};
 ghost use Rattle.live_model.specs.Ids.{IsId, ordinal};
-ghost use Rattle.live_model.specs.Stores.{key, IsRising};
+ghost use Rattle.live_model.specs.Stores.{key};
 ghost use Rattle.live_model.specs.Closures.{entity_at, node_id};
+ghost use Rattle.entity_store.specs.Changes.{after_changes};
 
-use crate::store::Store;
+use crate::store::{Staged, Store};
 use live_model::{Entity, ObjId};
 use std::marker::Model;
 
 /// How far the numbers of ids are moved up to make their places.
 const LIFT: u64 = 1 << 48;
 
-/// The objects of a store as they are now, seen as the list of its entities.
+/// The objects of a store as they are, or as they are after what is staged. It is seen as the list of its entities.
 #[derive(Drop)]
 pub struct Look<'a> {
-    entities: &'a [Entity],
+    store: &'a Store,
+    staged: Option<&'a Staged>,
 }
 
 impl<'a> Model for Look<'a> {
     ghost use Rattle.std.specs.Prelude.{List};
+    ghost use Rattle.std.specs.Option.{option_copied};
     ghost use Rattle.live_model.specs.declared.objects.Entity.{Entity};
-    ghost use Rattle.live_model.specs.Stores.{IsRising};
+    ghost use Rattle.entity_store.specs.Changes.{looked_at};
 
     ghost Value = { List Entity };
 
-    ghost view = { λ l. l.entities.now };
-
-    ghost invariant = { λ l. IsRising l.entities.now };
+    ghost view = { λ l. looked_at l.store.now.entities (option_copied l.staged) };
 }
 
 impl<'a> Look<'a> {
     /// The objects that are in the store now. It takes no memory.
     pub fn now(store: &'a Store) -> Look<'a>
-        ensures { result ≡ store.now }
+        ensures { result ≡ store.now.entities }
     {
         Look {
-            entities: store.as_slice(),
+            store,
+            staged: None,
         }
     }
 
-    /// The entity with this id. `None` exactly where there is none. It takes a binary search and no memory.
+    /// The objects that are in the store after what is staged. It takes no memory.
+    pub fn then(store: &'a Store, staged: &'a Staged) -> Look<'a>
+        ensures { result ≡ after_changes store.now.entities staged.now }
+    {
+        Look {
+            store,
+            staged: Some(staged),
+        }
+    }
+
+    /// The entity with this id. `None` exactly where there is none. It takes a binary search in each layer, and no memory.
     pub fn get(&self, id: &ObjId) -> Option<&Entity>
         ensures found { option_copied result ≡ entity_at self.now id.now }
         ensures same { IfSome result (λ e. e.now.id ≡ id.now) }
@@ -49,7 +61,7 @@ impl<'a> Look<'a> {
         self.at(id.ordinal())
     }
 
-    /// The node with this number. `None` exactly where there is none. It takes a binary search and no memory.
+    /// The node with this number. `None` exactly where there is none. It takes a binary search in each layer, and no memory.
     ///
     /// The references of a good way are of magnitude at most 2^48. Another number is looked for at the
     /// place that it would have in the order of ids.
@@ -65,30 +77,31 @@ impl<'a> Look<'a> {
         ensures same { IfSome result (λ e. key e.now ≡ place) }
         ensures good { IfSome result (λ e. IsId e.now.id) }
     {
-        let Some(entity) = self.first_from(place) else {
+        let Some(entity) = self.found_at(place) else {
             return None;
         };
-        if entity.id.ordinal() == place {
-            Some(entity)
-        } else {
-            None
+        let _ordinal = entity.id.ordinal();
+        Some(entity)
+    }
+
+    /// The same, where the staged lines are asked first.
+    fn found_at(&self, place: u64) -> Option<&Entity>
+        ensures { option_copied result ≡ find (λ e. key e == place) self.now }
+    {
+        match self.staged {
+            Some(staged) => at_after(self.store, staged, place),
+            None => self.store.at(place),
         }
     }
+}
 
-    /// The first entity whose id has this place or a later one.
-    fn first_from(&self, place: u64) -> Option<&Entity>
-        ensures first { option_copied result ≡ find (λ e. nat_le place (key e)) self.now }
-        ensures rising { IsRising self.now }
-    {
-        self.entities.get(self.count_below(place))
-    }
-
-    /// How many entities have ids of earlier places.
-    fn count_below(&self, place: u64) -> usize
-        ensures { result ≡ count_by (λ e. nat_lt (key e) place) self.now }
-    {
-        self.entities
-            .partition_point(|entity| entity.id.ordinal() < place)
+/// The entity whose id has this place after what is staged.
+fn at_after<'a>(store: &'a Store, staged: &'a Staged, place: u64) -> Option<&'a Entity>
+    ensures { option_copied result ≡ find (λ e. key e == place) (after_changes store.now.entities staged.now) }
+{
+    match staged.at(place) {
+        Some((_, value)) => value,
+        None => store.at(place),
     }
 }
 

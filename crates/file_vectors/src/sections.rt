@@ -90,7 +90,7 @@ fn packed<L: Ledger>(alloc: Global, rules: &Rules, store: &Store, blank: Blank) 
     requires name { blank.name ≡ L.name }
     requires parts { blank.parts ≡ L.parts }
     requires some { 0 < blank.parts }
-    requires good { IsStore store.now }
+    requires good { IsStore store.now.entities }
 {
     let mut steps = Steps::<L>::new(blank);
     let records = derive_all(alloc, rules, store, &mut steps)?;

@@ -58,8 +58,8 @@ pub fn read_store<'a, F: Files>(
     files: &mut F,
     file: Name<'a>,
 ) -> Result<Store, Status<'a>>
-    ensures store { IfOk result (λ store. HasRead (F.state files.old) (F.state files.new) (input (name_bytes file.entry) object_text) (λ text. IsStoreOf text store)) }
-    ensures good { IfOk result (λ store. IsStore store) }
+    ensures store { IfOk result (λ store. HasRead (F.state files.old) (F.state files.new) (input (name_bytes file.entry) object_text) (λ text. IsStoreOf text store.entities)) }
+    ensures good { IfOk result (λ store. IsStore store.entities) }
     ensures ends { IfErr result (λ status. EndsAt (input (name_bytes file.entry) object_text) (F.state files.old) (F.state files.new) (ending status)) }
     ensures only_reads { OnlyReads (F.state files.old) (F.state files.new) }
 {

@@ -19,7 +19,7 @@ use derive_map::derive_all;
 use entity_store::Store;
 use live_model::{Entity, Level, Mem, Rect, Steps};
 use obf_reader::{Image, images_are_files};
-use opl_writer::{put_line, write};
+use opl_writer::put_line;
 use outside::Files;
 use run_model::{Name, Status};
 use stamp_core::Head;
@@ -38,7 +38,7 @@ pub fn nodes_answer<'a, F: Files>(
     ensures ends { IfErr result (λ status. EndsAmong (plan_of (nodes rect (name_bytes base.entry))) (F.state files.old) (F.state files.new) (ending status)) }
 {
     let store = read_store(alloc, files, base)?;
-    let answer = nodes_text(alloc, rect, store.as_slice())?;
+    let answer = nodes_text(alloc, rect, &store)?;
     Ok(answer)
 }
 
@@ -52,7 +52,7 @@ pub fn dump_answer<'a, F: Files>(
     ensures ends { IfErr result (λ status. EndsAmong (plan_of (dump (name_bytes base.entry))) (F.state files.old) (F.state files.new) (ending status)) }
 {
     let store = read_store(alloc, files, base)?;
-    let answer = write(alloc, store.as_slice())?;
+    let answer = dump_text(alloc, &store)?;
     Ok(answer)
 }
 
@@ -115,20 +115,31 @@ fn packed_base<L: Ledger>(
     store: Store,
     steps: &mut Steps<L>,
 ) -> Mem<Built>
-    requires good { IsStore store }
-    ensures { IfOk result (λ built. IsPacked (base_parts rules.now store) (outcome_of built)) }
+    requires good { IsStore store.entities }
+    ensures { IfOk result (λ built. IsPacked (base_parts rules.now store.entities) (outcome_of built)) }
 {
     let records = derive_all(alloc, rules, &store, steps)?;
     drop(store);
     packed(alloc, &BASE, rules, &[], &records)
 }
 
-/// The canonical lines of the entities whose place lies in the rectangle, in order.
-fn nodes_text(alloc: Global, rect: Rect, entities: &[Entity]) -> Mem<Vec<u8>>
-    ensures { IfOk result (λ text. text.items ≡ lines_text (nodes_in rect entities.now)) }
+/// The canonical lines of the entities of a store, in order.
+fn dump_text(alloc: Global, store: &Store) -> Mem<Vec<u8>>
+    ensures { IfOk result (λ text. text.items ≡ lines_text store.now.entities) }
 {
     let mut text = Vec::new(alloc);
-    for entity in entities {
+    for entity in store.entities() {
+        put_line(&mut text, entity)?;
+    }
+    Ok(text)
+}
+
+/// The canonical lines of the entities of a store whose place lies in the rectangle, in order.
+fn nodes_text(alloc: Global, rect: Rect, store: &Store) -> Mem<Vec<u8>>
+    ensures { IfOk result (λ text. text.items ≡ lines_text (nodes_in rect store.now.entities)) }
+{
+    let mut text = Vec::new(alloc);
+    for entity in store.entities() {
         if is_located_in(&rect, entity) {
             put_line(&mut text, entity)?;
         }

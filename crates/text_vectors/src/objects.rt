@@ -67,14 +67,23 @@ fn whole(alloc: Global, fields: &mut Fields<'_>, out: &mut Answer) -> Result<(),
     let built = Store::build(alloc, &lines)?;
     let moved = Store::from_lines(alloc, lines)?;
     shared(&moved);
-    let text = write(alloc, built.as_slice())?;
-    out.number(moved.len() as u64)?;
-    out.agreed(moved.is_empty(), built.is_empty())?;
+    let text = written(alloc, &built)?;
+    out.number(moved.entities().count() as u64)?;
+    out.agreed(moved.next_after(None).is_none(), built.next_after(None).is_none())?;
     out.quoted(&text)?;
-    if text.as_slice() != write(alloc, moved.as_slice())?.as_slice() {
+    if text.as_slice() != written(alloc, &moved)?.as_slice() {
         out.word("the two differ")?;
     }
     Ok(())
+}
+
+/// The canonical lines of the objects of a store.
+fn written(alloc: Global, store: &Store) -> Result<Vec<u8>, RowError> {
+    let mut text = Vec::new(alloc);
+    for object in store.entities() {
+        put_line(&mut text, object)?;
+    }
+    Ok(text)
 }
 
 /// Puts the canonical line of an object, or `none`.

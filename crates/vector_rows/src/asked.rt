@@ -21,7 +21,7 @@ pub fn lines(alloc: Global, fields: &mut Fields<'_>) -> Result<Vec<Line>, RowErr
 
 /// The store of the text that the next field spells.
 pub fn store(alloc: Global, fields: &mut Fields<'_>) -> Result<Store, RowError>
-    ensures { IfOk result (λ store. IsStore store) }
+    ensures { IfOk result (λ store. IsStore store.entities) }
 {
     match read_all(alloc, &fields.bytes(alloc)?) {
         Ok(lines) => Ok(Store::from_lines(alloc, lines)?),
