@@ -3,8 +3,8 @@ use Rattle.std.proofs.Common.{◌≡◌, ◌≢◌, ◌⊎◌, ℕ, ◌+◌, ◌
 use Rattle.std.specs.Prelude.{codes, ◌^◌, if◌then◌else◌}
 use Rattle.std.specs.Str.{bytes_eq}
 use Rattle.outside.specs.Faults.{Rose}
-use Rattle.outside.specs.Files.{Contents, FilesState}
-use Rattle.outside.specs.Readings.{Reading, Writing, reading, writing}
+use Rattle.outside.specs.Files.{Contents, FilesState, OnlyWrites}
+use Rattle.outside.specs.Readings.{Reading, Writing, bytes_given, reading, writing}
 use Rattle.outside.specs.Sinks.{SinkState}
 use Rattle.outside.specs.Whole.{Follow, Gave, GaveAll, IsWhole}
 use Rattle.std.specs.Fmt.{digits}
@@ -25,7 +25,7 @@ use Rattle.run_model.specs.Inputs.{Input, Misfit, Plan, input, in_turn, no_more,
 use Rattle.run_model.specs.Jobs.{Outcome, Task, prints, task_of}
 use Rattle.run_model.specs.Reads.{EndsAmong, ReadInOrder, limit}
 use Rattle.run_model.specs.Requests.{Asked, build, dump}
-use Rattle.run_model.specs.Runs.{AreTold, Caused, CausedBy, Cause, Change, EndsOn, EndsWithCode, first_stop, IsDue, IsNotWritten, IsOutput, IsUntouched, IsWrittenAs, Keeps, OnlyTells, PutsLine, Receives, ReceivesLess, Run, change}
+use Rattle.run_model.specs.Runs.{AreTold, Caused, CausedBy, Cause, Change, EndsOn, EndsWithCode, first_stop, IsDue, IsNotWritten, IsOutput, IsUntouched, IsWrittenAs, Keeps, OnlyTells, PutsLine, Receives, ReceivesLess, Run, change, Holds, ReceivesNothing}
 use Rattle.run_model.proofs.Readings.{all_only, among_only}
 
 -- what the breaks of texts compute with
@@ -166,6 +166,10 @@ not_read_after text whole is = last_is_end text is.gave.readings is.gave.room wh
 abbrev sink_with : List ℕ → ℕ → SinkState
 sink_with received faults = record { received = received; faults = faults }
 
+-- a sink that nothing was put into
+abbrev silent_sink : Change SinkState
+silent_sink = change (sink_with [] 0) (sink_with [] 0)
+
 -- a count of faults that fell fits no answer
 count_falls : (answer : List ℕ) → ¬ Receives (change (sink_with [] 7) (sink_with answer 6)) answer
 count_falls answer receives = let count = receives.count in omega (arith, count)
@@ -173,6 +177,25 @@ count_falls answer receives = let count = receives.count in omega (arith, count)
 no_count_falls : (before after : FilesState) (out : Change SinkState) (e : Ending) (output : Option (List ℕ)) → Keeps e output (change before after) out
     → (before.read_faults ≤ after.read_faults) × (out.before.faults ≤ out.after.faults)
 no_count_falls before after out e output keeps = (keeps.read_faults, keeps.put_faults)
+
+-- What refuses these runs is the one clause each: all else that is asked of such a run holds of it, so that it would pass without.
+
+-- written twice: but for the list of writes
+written_twice_but_for_the_list : (given : List Reading) (bytes : List ℕ) → length bytes ≤ limit
+    → (length bytes ≤ limit) × Holds None None (codes "o") bytes × (0 ≤ 0) × OnlyWrites (real_files given []) (real_files given (twice bytes))
+written_twice_but_for_the_list given bytes within = (within, refl, omega arith, record { given = refl; read_faults = refl })
+
+-- the output written empty, and then out of memory: but for the list of writes
+emptied_but_for_the_list : ReceivesNothing silent_sink × Holds None None (codes "o") [] × OnlyWrites (real_files [] []) (real_files [] emptied)
+emptied_but_for_the_list = (refl, refl, record { given = refl; read_faults = refl })
+
+-- a reading without room: but for its room
+empty_room_but_for_the_room : (reading (codes "b") 0 0 [] ∷ [] ≡ [] ++ ([] ++ reading (codes "b") 0 0 [] ∷ [])) × Follow (codes "b") 0 [] × ([] ≡ bytes_given [])
+empty_room_but_for_the_room = (refl, tt, refl)
+
+-- a count that falls: but for the count
+fallen_but_for_the_count : (answer : List ℕ) → (sink_with answer 6).received ≡ (sink_with [] 7).received ++ answer
+fallen_but_for_the_count answer = refl
 
 -- Tasks of a kind that no verb has yet.
 
@@ -184,7 +207,7 @@ abbrev still : Change FilesState
 still = change (real_files [] []) (real_files [] [])
 
 abbrev silent : Change SinkState
-silent = change (sink_with [] 0) (sink_with [] 0)
+silent = silent_sink
 
 -- 1,025 files are too many, and nothing else may come of them
 too_many : CausedBy too_many_files still silent (crowd 1025)
