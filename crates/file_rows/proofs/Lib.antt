@@ -3,4 +3,4 @@ mod RuleRows
 mod FileRows
 mod PackedSectionRows
 mod PackedFileRows
-pub mod AddressRows
+mod AddressRows

@@ -1,0 +1,4 @@
+mod PeriodRows
+mod MachineRows
+mod FullRows
+mod LooseRows
