@@ -1,12 +1,14 @@
 //! Does one kind of work many times, for a script that measures it.
 //!
 //! The first word is the work: `wire` writes and reads numbers or points in their wire form, `rules` asks a table which rules
-//! match an object, and `boxes` packs boxes and asks their tree for those in rectangles. The words behind it say how, and how
+//! match an object, `boxes` packs boxes and asks their tree for those in rectangles, `store` builds a store of nodes and commits
+//! changes of it, and `over` goes over a store. The words behind it say how, and how
 //! much. Without words a little of each is done. Printed are two numbers, so that no work can be left out. Nothing is claimed of
 //! it but that it is safe and ends.
 #![tactic(auto)]
 
 mod boxes;
+mod changes;
 mod matching;
 mod numbers;
 mod points;
@@ -92,6 +94,8 @@ fn main(rt: HostRuntime) -> io::Result<ExitCode> {
             print(&rt, wire(alloc, "numbers-again", 1000))?
                 || print(&rt, matching::work(alloc, 1000, 200, 3))?
                 || print(&rt, in_boxes(alloc, "find", 1000, 3000))?
+                || print(&rt, changes::work(alloc, 1000, 40, 10))?
+                || print(&rt, changes::over(alloc, 1000, 3))?
         }
         "wire" => print(&rt, wire(alloc, text(&one), number(&two)))?,
         "rules" => print(
@@ -102,6 +106,11 @@ fn main(rt: HostRuntime) -> io::Result<ExitCode> {
             &rt,
             in_boxes(alloc, text(&one), number(&two), number(&three)),
         )?,
+        "store" => print(
+            &rt,
+            changes::work(alloc, number(&one), number(&two), number(&three)),
+        )?,
+        "over" => print(&rt, changes::over(alloc, number(&one), number(&two)))?,
         _ => return Ok(ExitCode::from(2)),
     };
     Ok(ExitCode::from(if refused { 6 } else { 0 }))
