@@ -56,7 +56,7 @@ fn some(alloc: Global, nodes: u32, count: u32, seed: u64) -> Mem<Vec<Line>> {
     for _ in 0..count {
         state = next(state);
         let number = ((state >> 33) % u64::from(nodes.max(1))) as u32;
-        if let Some(line) = node(alloc, number, (state >> 13) as u32) {
+        if let Some(line) = node(alloc, number, ((state >> 13) % 1_000_000_000) as u32) {
             lines.push(line)?;
         }
     }
