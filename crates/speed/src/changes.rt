@@ -6,10 +6,32 @@ use entity_store::Store;
 use live_model::{Entity, Kind, Line, List, Mem, ObjId, Point};
 use std::alloc::Global;
 
-/// Builds a store of so many nodes, and stages and commits so many changes of so many nodes each. What is summed are the
-/// places of some nodes afterwards.
+/// Builds a store of so many nodes, and commits so many changes of so many nodes each. What is summed are the places of
+/// some nodes afterwards.
 pub fn work(alloc: Global, nodes: u32, changes: u32, lines: u32) -> Mem<Work> {
-    let mut store = Store::from_lines(alloc, all(alloc, nodes)?)?;
+    let mut store = built(alloc, nodes)?;
+    change(alloc, &mut store, nodes, changes, lines)?;
+    Ok(Work {
+        count: u64::from(nodes),
+        sum: sum(&store, nodes),
+    })
+}
+
+/// Builds a store of so many nodes, and goes over it so many times.
+pub fn over(alloc: Global, nodes: u32, times: u32) -> Mem<Work> {
+    Ok(Work {
+        count: u64::from(nodes),
+        sum: sum_over(&built(alloc, nodes)?, times),
+    })
+}
+
+/// A store of so many nodes.
+pub fn built(alloc: Global, nodes: u32) -> Mem<Store> {
+    Store::from_lines(alloc, all(alloc, nodes)?)
+}
+
+/// Stages and commits so many changes of so many of the nodes each.
+pub fn change(alloc: Global, store: &mut Store, nodes: u32, changes: u32, lines: u32) -> Mem<()> {
     let mut state = 1u64;
     for _ in 0..changes {
         let moved = some(alloc, nodes, lines, state)?;
@@ -17,29 +39,35 @@ pub fn work(alloc: Global, nodes: u32, changes: u32, lines: u32) -> Mem<Work> {
         store.commit(staged);
         state = next(state);
     }
-    Ok(Work {
-        count: u64::from(nodes),
-        sum: sum(&store, nodes),
-    })
+    Ok(())
 }
 
-/// Goes over all of a store of so many nodes, so many times.
-pub fn over(alloc: Global, nodes: u32, times: u32) -> Mem<Work> {
-    let store = Store::from_lines(alloc, all(alloc, nodes)?)?;
+/// The places of all nodes, so many times.
+pub fn sum_over(store: &Store, times: u32) -> u64 {
     let mut sum = 0u64;
     for _ in 0..times {
         for node in store.entities() {
             sum = sum.wrapping_add(node.place.map_or(0, |place| u64::from(place.x)));
         }
     }
-    Ok(Work {
-        count: u64::from(nodes),
-        sum,
-    })
+    sum
+}
+
+/// The same of a list of lines, beside which going over a store is measured.
+pub fn sum_lines(lines: &[Line], times: u32) -> u64 {
+    let mut sum = 0u64;
+    for _ in 0..times {
+        for line in lines {
+            if let Line::Live(node) = line {
+                sum = sum.wrapping_add(node.place.map_or(0, |place| u64::from(place.x)));
+            }
+        }
+    }
+    sum
 }
 
 /// The nodes, each in its first place.
-fn all(alloc: Global, nodes: u32) -> Mem<Vec<Line>> {
+pub fn all(alloc: Global, nodes: u32) -> Mem<Vec<Line>> {
     let mut lines = Vec::with_capacity(alloc, nodes as usize)?;
     for number in 0..nodes {
         if let Some(line) = node(alloc, number, number) {
@@ -77,7 +105,7 @@ fn node(alloc: Global, number: u32, x: u32) -> Option<Line> {
 }
 
 /// The places of a thousand nodes at most, in sum.
-fn sum(store: &Store, nodes: u32) -> u64 {
+pub fn sum(store: &Store, nodes: u32) -> u64 {
     let mut sum = 0u64;
     let mut state = 1u64;
     for _ in 0..1000 {

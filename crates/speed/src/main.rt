@@ -18,6 +18,7 @@ mod state;
 use owned_data::{Mem, NoMemory};
 use std::alloc::Global;
 use std::process::ExitCode;
+use std::time::Instant;
 use std::{env, io};
 
 /// What was done: how much was made or found, and a sum of it.
@@ -82,6 +83,36 @@ fn print(rt: &HostRuntime, done: Mem<Work>) -> io::Result<bool> {
     }
 }
 
+/// Builds a store, changes it, and prints besides how many nanoseconds the changes took.
+fn changed(rt: &HostRuntime, nodes: u32, changes: u32, lines: u32) -> io::Result<bool> {
+    let alloc = rt.alloc();
+    let Ok(mut store) = changes::built(alloc, nodes) else {
+        return Ok(true);
+    };
+    let began = Instant::now(rt)?;
+    let done = changes::change(alloc, &mut store, nodes, changes, lines);
+    let took = began.elapsed(rt)?.as_nanos();
+    let sum = changes::sum(&store, nodes);
+    println!(rt; "{nodes} {sum} {took}")?;
+    Ok(done.is_err())
+}
+
+/// Goes over a store, and over a list of its lines, and prints how many nanoseconds each took.
+fn gone_over(rt: &HostRuntime, nodes: u32, times: u32) -> io::Result<bool> {
+    let alloc = rt.alloc();
+    let (Ok(store), Ok(lines)) = (changes::built(alloc, nodes), changes::all(alloc, nodes)) else {
+        return Ok(true);
+    };
+    let began = Instant::now(rt)?;
+    let sum = changes::sum_over(&store, times);
+    let store_took = began.elapsed(rt)?.as_nanos();
+    let began = Instant::now(rt)?;
+    let other = changes::sum_lines(&lines, times);
+    let list_took = began.elapsed(rt)?.as_nanos();
+    println!(rt; "{sum} {other} {store_took} {list_took}")?;
+    Ok(false)
+}
+
 fn main(rt: HostRuntime) -> io::Result<ExitCode> {
     let mut words = env::args(&rt)?.skip(1);
     let verb = words.next();
@@ -106,11 +137,8 @@ fn main(rt: HostRuntime) -> io::Result<ExitCode> {
             &rt,
             in_boxes(alloc, text(&one), number(&two), number(&three)),
         )?,
-        "store" => print(
-            &rt,
-            changes::work(alloc, number(&one), number(&two), number(&three)),
-        )?,
-        "over" => print(&rt, changes::over(alloc, number(&one), number(&two)))?,
+        "store" => changed(&rt, number(&one), number(&two), number(&three))?,
+        "over" => gone_over(&rt, number(&one), number(&two))?,
         _ => return Ok(ExitCode::from(2)),
     };
     Ok(ExitCode::from(if refused { 6 } else { 0 }))
