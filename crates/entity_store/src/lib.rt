@@ -12,5 +12,5 @@ mod changes;
 mod look;
 mod store;
 
-pub use look::Look;
+pub use look::{Look, place_of_node};
 pub use store::{Staged, Store};

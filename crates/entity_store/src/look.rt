@@ -106,7 +106,7 @@ fn at_after<'a>(store: &'a Store, staged: &'a Staged, place: u64) -> Option<&'a 
 }
 
 /// The place of a node of this number in the order of ids; numbers under -2^48 have the least one.
-fn place_of_node(number: i64) -> u64
+pub fn place_of_node(number: i64) -> u64
     ensures { result ≡ ordinal (node_id number) }
 {
     if number < 0 {

@@ -177,12 +177,12 @@ fn settled<K: Ord, V>(layers: &[Layer<K, V>]) -> usize
 {
     let mut rest = layers;
     let mut above: usize = 0;
-    while let [before @ .., layer] = rest {
+    while let [lower @ .., layer] = rest {
         if above > 0 && layer.len() / 2 > above {
             break;
         }
         above = above.saturating_add(layer.len());
-        rest = before;
+        rest = lower;
     }
     rest.len()
 }

@@ -1,12 +1,14 @@
 //! Does one kind of work many times, for a script that measures it.
 //!
 //! The first word is the work: `wire` writes and reads numbers or points in their wire form, `rules` asks a table which rules
-//! match an object, and `boxes` packs boxes and asks their tree for those in rectangles. The words behind it say how, and how
+//! match an object, `boxes` packs boxes and asks their tree for those in rectangles, `store` builds a store of nodes and commits
+//! changes of it, and `over` goes over a store. The words behind it say how, and how
 //! much. Without words a little of each is done. Printed are two numbers, so that no work can be left out. Nothing is claimed of
 //! it but that it is safe and ends.
 #![tactic(auto)]
 
 mod boxes;
+mod changes;
 mod matching;
 mod numbers;
 mod points;
@@ -16,6 +18,7 @@ mod state;
 use owned_data::{Mem, NoMemory};
 use std::alloc::Global;
 use std::process::ExitCode;
+use std::time::Instant;
 use std::{env, io};
 
 /// What was done: how much was made or found, and a sum of it.
@@ -80,6 +83,36 @@ fn print(rt: &HostRuntime, done: Mem<Work>) -> io::Result<bool> {
     }
 }
 
+/// Builds a store, changes it, and prints besides how many nanoseconds the changes took.
+fn changed(rt: &HostRuntime, nodes: u32, changes: u32, lines: u32) -> io::Result<bool> {
+    let alloc = rt.alloc();
+    let Ok(mut store) = changes::built(alloc, nodes) else {
+        return Ok(true);
+    };
+    let began = Instant::now(rt)?;
+    let done = changes::change(alloc, &mut store, nodes, changes, lines);
+    let took = began.elapsed(rt)?.as_nanos();
+    let sum = changes::sum(&store, nodes);
+    println!(rt; "{nodes} {sum} {took}")?;
+    Ok(done.is_err())
+}
+
+/// Goes over a store, and over a list of its lines, and prints how many nanoseconds each took.
+fn gone_over(rt: &HostRuntime, nodes: u32, times: u32) -> io::Result<bool> {
+    let alloc = rt.alloc();
+    let (Ok(store), Ok(lines)) = (changes::built(alloc, nodes), changes::all(alloc, nodes)) else {
+        return Ok(true);
+    };
+    let began = Instant::now(rt)?;
+    let sum = changes::sum_over(&store, times);
+    let store_took = began.elapsed(rt)?.as_nanos();
+    let began = Instant::now(rt)?;
+    let other = changes::sum_lines(&lines, times);
+    let list_took = began.elapsed(rt)?.as_nanos();
+    println!(rt; "{sum} {other} {store_took} {list_took}")?;
+    Ok(false)
+}
+
 fn main(rt: HostRuntime) -> io::Result<ExitCode> {
     let mut words = env::args(&rt)?.skip(1);
     let verb = words.next();
@@ -92,6 +125,8 @@ fn main(rt: HostRuntime) -> io::Result<ExitCode> {
             print(&rt, wire(alloc, "numbers-again", 1000))?
                 || print(&rt, matching::work(alloc, 1000, 200, 3))?
                 || print(&rt, in_boxes(alloc, "find", 1000, 3000))?
+                || print(&rt, changes::work(alloc, 1000, 40, 10))?
+                || print(&rt, changes::over(alloc, 1000, 3))?
         }
         "wire" => print(&rt, wire(alloc, text(&one), number(&two)))?,
         "rules" => print(
@@ -102,6 +137,8 @@ fn main(rt: HostRuntime) -> io::Result<ExitCode> {
             &rt,
             in_boxes(alloc, text(&one), number(&two), number(&three)),
         )?,
+        "store" => changed(&rt, number(&one), number(&two), number(&three))?,
+        "over" => gone_over(&rt, number(&one), number(&two))?,
         _ => return Ok(ExitCode::from(2)),
     };
     Ok(ExitCode::from(if refused { 6 } else { 0 }))

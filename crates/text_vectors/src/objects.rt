@@ -69,7 +69,10 @@ fn whole(alloc: Global, fields: &mut Fields<'_>, out: &mut Answer) -> Result<(),
     shared(&moved);
     let text = written(alloc, &built)?;
     out.number(moved.entities().count() as u64)?;
-    out.agreed(moved.next_after(None).is_none(), built.next_after(None).is_none())?;
+    out.agreed(
+        moved.next_after(None).is_none(),
+        built.next_after(None).is_none(),
+    )?;
     out.quoted(&text)?;
     if text.as_slice() != written(alloc, &moved)?.as_slice() {
         out.word("the two differ")?;
