@@ -1,13 +1,15 @@
 //! The nodes of a tree of boxes.
 
 ghost use Rattle.std.specs.Prelude.{◌≡◌, ◌≤◌, ◌<◌, length, true, IfOk, IfSome};
+ghost use Rattle.obf_wire.specs.Fields.{part_of};
+ghost use Rattle.obf_wire.specs.Windows.{range_of};
 ghost use Rattle.boxed_exact.specs.Nodes.{IsTreePart};
 ghost use Rattle.boxed_check.specs.Nodes.{AreNodesSeen, IsFront, IsGoodNode};
 ghost use Rattle.boxed_exact.specs.Boxes.{box_of};
 
 use boxed_exact::{Edges, LeafSeen, Number, part_below};
 use file_grammar::Part;
-use obf_wire::{Field, expected, expected_wide};
+use obf_wire::{Field, Window, expected, expected_wide};
 use owned_data::{Mem, NoMemory};
 
 /// The keys of the edges of a node, of the block offset of a leaf, and of a node below another.
@@ -34,29 +36,25 @@ pub(crate) struct Front {
     pub(crate) next: usize,
 }
 
-/// Reads a node and those below it, and adds their leaves. `Some` with its box only where its form is good, and all that has to
+/// Reads the node in a window and those below it, and adds their leaves. `Some` with its box only where its form is good, and all that has to
 /// hold of the nodes holds.
 #[cycle(nodes)]
 pub(crate) fn see_node(
     part: Part,
-    bytes: &[u8],
-    from: usize,
-    to: usize,
+    window: Window<'_>,
     leaves: &mut Vec<LeafSeen>,
 ) -> Mem<Option<Edges>>
     requires part { IsTreePart part }
-    requires ordered { from ≤ to }
-    requires within { to ≤ length bytes.now }
-    ensures { IfOk result (λ found. IfSome found (λ edges. IsGoodNode part (record { bytes = bytes.now; place = from; end = to }) edges leaves.old.items leaves.new.items)) }
+    ensures { IfOk result (λ found. IfSome found (λ edges. IsGoodNode part (range_of window.entry) edges leaves.old.items leaves.new.items)) }
 {
-    let Some(front) = front_of(bytes, from, to) else {
+    let Some(front) = front_of(window) else {
         return Ok(None);
     };
-    if front.next < to && bytes[front.next] == PLACE {
-        let Some(place) = expected(bytes, front.next, to, PLACE) else {
+    if front.next < window.to() && window.all()[front.next] == PLACE {
+        let Some(place) = expected(window, front.next, PLACE) else {
             return Ok(None);
         };
-        if place.to != to {
+        if place.to != window.to() {
             return Ok(None);
         }
         leaves.push(leaf_of(&front, place))?;
@@ -65,7 +63,7 @@ pub(crate) fn see_node(
     let Some(below) = part_below(part) else {
         return Ok(None);
     };
-    let good = see_below(below, bytes, front.next, to, &front.edges, leaves)?;
+    let good = see_below(below, window, front.next, &front.edges, leaves)?;
     if !good {
         return Ok(None);
     }
@@ -86,28 +84,27 @@ fn leaf_of(front: &Front, place: Field) -> LeafSeen
     }
 }
 
-/// One to eight nodes of this part inside a box.
+/// One to eight nodes of this part inside a box, from `from` on in a window.
 #[cycle(nodes)]
 fn see_below(
     below: Part,
-    bytes: &[u8],
+    window: Window<'_>,
     from: usize,
-    to: usize,
     holder: &Edges,
     leaves: &mut Vec<LeafSeen>,
 ) -> Mem<bool>
     requires part { IsTreePart below }
-    requires ordered { from ≤ to }
-    requires within { to ≤ length bytes.now }
-    ensures { IfOk result (λ good. good ≡ true → AreNodesSeen below (record { bytes = bytes.now; place = from; end = to }) (box_of holder.now) leaves.old.items leaves.new.items) }
+    requires inside { from ≤ window.to }
+    ensures { IfOk result (λ good. good ≡ true → AreNodesSeen below (part_of window.entry.bytes.now from window.entry.to) (box_of holder.now) leaves.old.items leaves.new.items) }
 {
     let mut at = from;
     let mut count: usize = 0;
-    while at < to {
-        let Some(field) = expected_wide(bytes, at, to, NODE) else {
+    while at < window.to() {
+        let Some(field) = expected_wide(window, at, NODE) else {
             return Ok(false);
         };
-        let found = see_node(below, bytes, field.from, field.to, leaves)?;
+        let inner = window.part(field.from, field.to);
+        let found = see_node(below, inner, leaves)?;
         let Some(edges) = found else {
             return Ok(false);
         };
@@ -120,23 +117,21 @@ fn see_below(
     Ok(count > 0)
 }
 
-/// The edges with which a node begins, where they are a box.
-fn front_of(bytes: &[u8], from: usize, to: usize) -> Option<Front>
-    requires ordered { from ≤ to }
-    requires within { to ≤ length bytes.now }
-    ensures front { IfSome result (IsFront (record { bytes = bytes.now; place = from; end = to })) }
-    ensures inside { IfSome result (λ front. front.next ≤ to) }
+/// The edges with which the node in a window begins, where they are a box.
+fn front_of(window: Window<'_>) -> Option<Front>
+    ensures front { IfSome result (IsFront (range_of window.entry)) }
+    ensures inside { IfSome result (λ front. front.next ≤ window.entry.to) }
 {
-    let Some(left) = expected(bytes, from, to, LEFT) else {
+    let Some(left) = expected(window, window.from(), LEFT) else {
         return None;
     };
-    let Some(top) = expected(bytes, left.to, to, TOP) else {
+    let Some(top) = expected(window, left.to, TOP) else {
         return None;
     };
-    let Some(right) = expected(bytes, top.to, to, RIGHT) else {
+    let Some(right) = expected(window, top.to, RIGHT) else {
         return None;
     };
-    let Some(bottom) = expected(bytes, right.to, to, BOTTOM) else {
+    let Some(bottom) = expected(window, right.to, BOTTOM) else {
         return None;
     };
     let edges = Edges {

@@ -1,12 +1,14 @@
 //! The points of a record, as the steps between them lead there.
 
 ghost use Rattle.std.specs.Prelude.{◌≡◌, ◌≤◌, ◌<◌, length, IfSome, pos, ◌+ℤ◌};
+ghost use Rattle.obf_wire.specs.Fields.{part_of};
+ghost use Rattle.obf_wire.specs.Windows.{range_of};
 ghost use Rattle.obf_wire.specs.Zigzag.{unzigzag};
 ghost use Rattle.boxed_exact.specs.Boxes.{box_of};
 ghost use Rattle.boxed_check.specs.Points.{ArePointsSeen, IsMoved, IsOnGridSpot, IsShifted};
 
 use boxed_exact::Edges;
-use obf_wire::number;
+use obf_wire::{Window, number};
 
 /// The greatest x and the greatest y of a location, in units of 10^-7 degrees from the north-west corner.
 const WIDTH: u64 = 3_600_000_000;
@@ -21,20 +23,18 @@ pub struct Spot {
     pub next: usize,
 }
 
-/// How many points stand from `from` up to `to`, where all are in the box.
-pub fn points_in(bytes: &[u8], from: usize, to: usize, holder: &Edges) -> Option<usize>
-    requires ordered { from ≤ to }
-    requires within { to ≤ length bytes.now }
-    ensures { IfSome result (ArePointsSeen (record { bytes = bytes.now; place = from; end = to }) (box_of holder.now)) }
+/// How many points stand in a window, where all are in the box.
+pub fn points_in(window: Window<'_>, holder: &Edges) -> Option<usize>
+    ensures { IfSome result (ArePointsSeen (range_of window.entry) (box_of holder.now)) }
 {
     let mut spot = Spot {
         x: 0,
         y: 0,
-        next: from,
+        next: window.from(),
     };
     let mut count = 0;
-    while spot.next < to {
-        let Some(next) = moved(bytes, to, &spot, holder) else {
+    while spot.next < window.to() {
+        let Some(next) = moved(window, &spot, holder) else {
             return None;
         };
         spot = next;
@@ -44,18 +44,17 @@ pub fn points_in(bytes: &[u8], from: usize, to: usize, holder: &Edges) -> Option
 }
 
 /// Where the next step leads, if into the box.
-fn moved(bytes: &[u8], to: usize, spot: &Spot, holder: &Edges) -> Option<Spot>
-    requires ordered { spot.now.next < to }
-    requires within { to ≤ length bytes.now }
+fn moved(window: Window<'_>, spot: &Spot, holder: &Edges) -> Option<Spot>
+    requires inside { spot.now.next < window.to }
     requires spot { IsOnGridSpot spot.now.x spot.now.y }
-    ensures moved { IfSome result (IsMoved (record { bytes = bytes.now; place = spot.now.next; end = to }) (box_of holder.now) spot.now.x spot.now.y) }
+    ensures moved { IfSome result (IsMoved (part_of window.entry.bytes.now spot.now.next window.entry.to) (box_of holder.now) spot.now.x spot.now.y) }
     ensures spot { IfSome result (λ spot. IsOnGridSpot spot.x spot.y) }
-    ensures inside { IfSome result (λ s. (spot.now.next < s.next) × (s.next ≤ to)) }
+    ensures inside { IfSome result (λ s. (spot.now.next < s.next) × (s.next ≤ window.entry.to)) }
 {
-    let Some((a, between)) = number(bytes, spot.next, to) else {
+    let Some((a, between)) = number(window, spot.next) else {
         return None;
     };
-    let Some((b, next)) = number(bytes, between, to) else {
+    let Some((b, next)) = number(window, between) else {
         return None;
     };
     let Some(x) = shifted(spot.x, a, holder.left, holder.right, WIDTH) else {

@@ -1,6 +1,8 @@
 //! A whole section.
 
-ghost use Rattle.std.specs.Prelude.{◌≡◌, ◌≤◌, length, true, IfOk, IfSome, MatchOption, [], ◌∷◌};
+ghost use Rattle.std.specs.Prelude.{◌≡◌, ◌≤◌, true, IfOk, IfSome, MatchOption, [], ◌∷◌};
+ghost use Rattle.obf_wire.specs.Fields.{part_of};
+ghost use Rattle.obf_wire.specs.Windows.{range_of};
 ghost use Rattle.boxed_exact.specs.Sides.{AreRising};
 ghost use Rattle.boxed_exact.specs.Sides.{beside};
 ghost use Rattle.boxed_check.specs.Sections.{AreBlocksSeen, IsGoodTree};
@@ -11,7 +13,7 @@ use crate::kept::Kept;
 use crate::nodes::see_node;
 use boxed_exact::{Around, CheckClass, LeafSeen, Payload};
 use file_grammar::Part;
-use obf_wire::{Field, expected_wide};
+use obf_wire::{Field, Window, expected_wide};
 use owned_data::{Mem, NoMemory};
 use std::alloc::Global;
 
@@ -23,29 +25,25 @@ const BLOCK: u8 = 22;
 /// More records than these are counted by no file.
 const FEW: usize = 1_000_000_000_000_000;
 
-/// Reads a section in one pass. `Some` only where its form is good and all that has to hold of it holds.
+/// Reads the section in a window in one pass. `Some` only where its form is good and all that has to hold of it holds.
 pub fn see_section<C: CheckClass>(
     alloc: Global,
-    bytes: &[u8],
-    from: usize,
-    to: usize,
+    window: Window<'_>,
     around: &Around<'_>,
 ) -> Mem<Option<Kept>>
-    requires ordered { from ≤ to }
-    requires within { to ≤ length bytes.now }
     requires marks { AreRising around.now.marks }
-    ensures { IfOk result (λ found. IfSome found (IsKept C.class C.boxing (beside around.now) (record { bytes = bytes.now; place = from; end = to }))) }
+    ensures { IfOk result (λ found. IfSome found (IsKept C.class C.boxing (beside around.now) (range_of window.entry))) }
 {
-    let Some(tree) = expected_wide(bytes, from, to, TREE) else {
+    let Some(tree) = expected_wide(window, window.from(), TREE) else {
         return Ok(None);
     };
     let mut leaves = Vec::new(alloc);
-    let good = see_tree(bytes, tree, &mut leaves)?;
+    let good = see_tree(window.part(tree.from, tree.to), &mut leaves)?;
     if !good {
         return Ok(None);
     }
     let mut blocks = Vec::new(alloc);
-    let found = blocks_in::<C>(bytes, tree.to, to, leaves.as_slice(), around, &mut blocks)?;
+    let found = blocks_in::<C>(window, tree.to, leaves.as_slice(), around, &mut blocks)?;
     let Some(records) = found else {
         return Ok(None);
     };
@@ -56,44 +54,41 @@ pub fn see_section<C: CheckClass>(
     }))
 }
 
-/// The tree in a field, which may be empty.
-fn see_tree(bytes: &[u8], field: Field, leaves: &mut Vec<LeafSeen>) -> Mem<bool>
-    requires ordered { field.from ≤ field.to }
-    requires within { field.to ≤ length bytes.now }
-    ensures { IfOk result (λ good. good ≡ true → IsGoodTree (record { bytes = bytes.now; place = field.from; end = field.to }) leaves.old.items leaves.new.items) }
+/// The tree in a window, which may be empty.
+fn see_tree(window: Window<'_>, leaves: &mut Vec<LeafSeen>) -> Mem<bool>
+    ensures { IfOk result (λ good. good ≡ true → IsGoodTree (range_of window.entry) leaves.old.items leaves.new.items) }
 {
-    if field.from == field.to {
+    if window.is_empty() {
         return Ok(true);
     }
-    let found = see_node(Part::Tree, bytes, field.from, field.to, leaves)?;
+    let found = see_node(Part::Tree, window, leaves)?;
     Ok(found.is_some())
 }
 
-/// How many records the blocks have that stand there, each with the leaf that names it; adds where they stand.
+/// How many records the blocks have that stand from `from` on in a window, each with the leaf that names it; adds where they stand.
 fn blocks_in<C: CheckClass>(
-    bytes: &[u8],
+    window: Window<'_>,
     from: usize,
-    to: usize,
     leaves: &[LeafSeen],
     around: &Around<'_>,
     blocks: &mut Vec<Payload>,
 ) -> Mem<Option<usize>>
-    requires ordered { from ≤ to }
-    requires within { to ≤ length bytes.now }
+    requires inside { from ≤ window.to }
     requires marks { AreRising around.now.marks }
-    ensures { IfOk result (λ found. IfSome found (AreBlocksSeen C.class C.boxing (beside around.now) (record { bytes = bytes.now; place = from; end = to }) leaves.now blocks.old.items blocks.new.items)) }
+    ensures { IfOk result (λ found. IfSome found (AreBlocksSeen C.class C.boxing (beside around.now) (part_of window.entry.bytes.now from window.entry.to) leaves.now blocks.old.items blocks.new.items)) }
 {
     let mut at = from;
     let mut rest = leaves;
     let mut count: usize = 0;
     while let Some((leaf, after)) = parted(rest) {
-        let Some(field) = expected_wide(bytes, at, to, BLOCK) else {
+        let Some(field) = expected_wide(window, at, BLOCK) else {
             return Ok(None);
         };
         if leaf.place.value != (at - from) as u64 || count > FEW {
             return Ok(None);
         }
-        let Some(records) = see_block::<C>(bytes, field, &leaf.edges, around) else {
+        let payload = window.part(field.from, field.to);
+        let Some(records) = see_block::<C>(payload, field.at, &leaf.edges, around) else {
             return Ok(None);
         };
         blocks.push(span_of(field))?;
@@ -101,7 +96,7 @@ fn blocks_in<C: CheckClass>(
         at = field.to;
         count += records;
     }
-    if at != to {
+    if at != window.to() {
         return Ok(None);
     }
     Ok(Some(count))

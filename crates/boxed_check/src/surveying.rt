@@ -2,6 +2,7 @@
 
 ghost use Rattle.std.specs.Prelude.{◌≡◌, ◌≤◌, ◌<◌, ◌+◌, ℕ, None, Some, Ok, length, IfOk};
 ghost use Rattle.obf_wire.specs.Fields.{IsWindow};
+ghost use Rattle.obf_wire.specs.Windows.{range_of};
 ghost use Rattle.file_grammar.specs.declared.parts.Part.TheVariants.{Block, Boxes};
 ghost use Rattle.file_grammar.specs.BoxRules.{Beside};
 ghost use Rattle.file_grammar.specs.Messages.{Fields};
@@ -17,30 +18,27 @@ use crate::kept::Kept;
 use crate::section::span_of;
 use boxed_exact::{CheckClass, Payload, check_nodes, next_payload};
 use file_grammar::{FieldWalk, FirstBreak, Part};
+use obf_wire::Window;
 use owned_data::{Mem, NoMemory};
 use std::alloc::Global;
 
-/// What a check leaves of a section of which every rule holds.
-pub fn survey<C: CheckClass>(alloc: Global, bytes: &[u8], from: usize, to: usize) -> Mem<Kept>
-    requires ordered { from ≤ to }
-    requires within { to ≤ length bytes.now }
-    ensures { IfOk result (λ kept. (beside : Beside) → section_break C.class C.boxing beside (record { bytes = bytes.now; place = from; end = to }) ≡ None
-        → IsKept C.class C.boxing beside (record { bytes = bytes.now; place = from; end = to }) kept) }
+/// What a check leaves of the section in a window of which every rule holds.
+pub fn survey<C: CheckClass>(alloc: Global, window: Window<'_>) -> Mem<Kept>
+    ensures { IfOk result (λ kept. (beside : Beside) → section_break C.class C.boxing beside (range_of window.entry) ≡ None
+        → IsKept C.class C.boxing beside (range_of window.entry) kept) }
 {
     let mut first = FirstBreak::none();
     let mut leaves = Vec::new(alloc);
     let mut blocks = Vec::new(alloc);
-    let mut walk = FieldWalk::new(Part::Boxes(C::class()), bytes, from, to);
+    let mut walk = FieldWalk::new(Part::Boxes(C::class()), window);
     let tree = next_payload(&mut walk);
     check_nodes(
         Part::Tree,
-        bytes,
-        tree.from,
-        tree.to,
+        window.part(tree.from, tree.to),
         &mut first,
         &mut leaves,
     )?;
-    let records = survey_blocks::<C>(&mut walk, bytes, &mut blocks)?;
+    let records = survey_blocks::<C>(&mut walk, window.all(), &mut blocks)?;
     Ok(Kept {
         leaves,
         blocks,
@@ -62,19 +60,17 @@ fn survey_blocks<C: CheckClass>(
     let mut count = 0;
     while let Some(field) = walk.next() {
         blocks.push(span_of(field))?;
-        count += count_block::<C>(bytes, field.from, field.to);
+        count += count_block::<C>(Window::new(bytes, field.from, field.to));
     }
     Ok(count)
 }
 
-/// How many records there are in the block from `from` up to `to`.
-fn count_block<C: CheckClass>(bytes: &[u8], from: usize, to: usize) -> usize
-    requires ordered { from ≤ to }
-    requires within { to ≤ length bytes.now }
-    ensures count { (fields : Fields) (at : ℕ) (block : BlockOf) → message_at (Block C.class) (record { bytes = bytes.now; place = from; end = to }) ≡ Ok fields → block_with at fields ≡ Some block → result ≡ length block.entries }
-    ensures few { from + result ≤ to }
+/// How many records there are in the block in a window.
+fn count_block<C: CheckClass>(window: Window<'_>) -> usize
+    ensures count { (fields : Fields) (at : ℕ) (block : BlockOf) → message_at (Block C.class) (range_of window.entry) ≡ Ok fields → block_with at fields ≡ Some block → result ≡ length block.entries }
+    ensures few { window.entry.from + result ≤ window.entry.to }
 {
-    let mut walk = FieldWalk::new(Part::Block(C::class()), bytes, from, to);
+    let mut walk = FieldWalk::new(Part::Block(C::class()), window);
     match walk.next() {
         Some(_) => count_records(&mut walk),
         None => 0,

@@ -1,28 +1,27 @@
 //! The texts of a block.
 
-ghost use Rattle.std.specs.Prelude.{◌≡◌, ◌≤◌, length, IfSome, true};
+ghost use Rattle.std.specs.Prelude.{◌≡◌, ◌≤◌, IfSome, true};
+ghost use Rattle.obf_wire.specs.Windows.{range_of};
 ghost use Rattle.boxed_check.specs.Blocks.{AreTextsSeen, IsTextBehind};
 
 use boxed_exact::{is_utf8, text_rises};
-use obf_wire::expected;
+use obf_wire::{Window, expected};
 
 /// The key of a text.
 const TEXT: u8 = 10;
 
-/// How many texts stand from `from` up to `to`, where they rise and each is UTF-8 and not empty.
-pub(crate) fn texts_in(bytes: &[u8], from: usize, to: usize) -> Option<usize>
-    requires ordered { from ≤ to }
-    requires within { to ≤ length bytes.now }
-    ensures { IfSome result (AreTextsSeen (record { bytes = bytes.now; place = from; end = to })) }
+/// How many texts stand in a window, where they rise and each is UTF-8 and not empty.
+pub(crate) fn texts_in(window: Window<'_>) -> Option<usize>
+    ensures { IfSome result (AreTextsSeen (range_of window.entry)) }
 {
-    let mut at = from;
+    let mut at = window.from();
     let mut before: &[u8] = &[];
     let mut count = 0;
-    while at < to {
-        let Some(field) = expected(bytes, at, to, TEXT) else {
+    while at < window.to() {
+        let Some(field) = expected(window, at, TEXT) else {
             return None;
         };
-        let text = &bytes[field.from..field.to];
+        let text = &window.all()[field.from..field.to];
         if !is_text(before, text) {
             return None;
         }

@@ -7,6 +7,7 @@ ghost use Rattle.file_grammar.specs.Readings.{message_at};
 ghost use Rattle.file_grammar.specs.Sections.{Block as BlockOf};
 ghost use Rattle.file_grammar.specs.Walks.{left_in};
 ghost use Rattle.obf_wire.specs.Fields.{IsWindow};
+ghost use Rattle.obf_wire.specs.Windows.{range_of};
 ghost use Rattle.boxed_exact.specs.Boxes.{box_of};
 ghost use Rattle.boxed_exact.specs.Records.{AreRecords, AreRecordsChecked, IsBlockChecked};
 ghost use Rattle.boxed_exact.specs.Sides.{AreRising, beside};
@@ -14,10 +15,10 @@ ghost use Rattle.boxed_exact.specs.Sides.{AreRising, beside};
 use crate::around::Around;
 use crate::class::CheckClass;
 use crate::edges::Edges;
-use crate::fields::{Payload, next_payload};
+use crate::fields::next_payload;
 use crate::texts::check_texts;
 use file_grammar::{FieldWalk, FirstBreak, Part};
-use obf_wire::FileKind;
+use obf_wire::{FileKind, Window};
 
 /// What was seen of a block: how many records it has, and whether their points are all in a box.
 #[derive(Clone, Copy, Debug)]
@@ -26,25 +27,23 @@ pub struct BlockSeen {
     pub in_box: bool,
 }
 
-/// Checks every rule of a block and its records.
+/// Checks every rule of the block in a window, whose field begins at `at`, and of its records.
 pub(crate) fn check_block<C: CheckClass>(
-    bytes: &[u8],
-    span: Payload,
+    window: Window<'_>,
+    at: usize,
     holder: &Edges,
     around: &Around<'_>,
     first: &mut FirstBreak,
 ) -> BlockSeen
     requires marks { AreRising around.now.marks }
-    requires ordered { span.from ≤ span.to }
-    requires within { span.to ≤ length bytes.now }
-    ensures { (fields : Fields) → message_at (Block C.class) (record { bytes = bytes.now; place = span.from; end = span.to }) ≡ Ok fields
-        → IsBlockChecked C.boxing (beside around.now) (box_of holder.now) span.at fields first.old first.new result }
+    ensures { (fields : Fields) → message_at (Block C.class) (range_of window.entry) ≡ Ok fields
+        → IsBlockChecked C.boxing (beside around.now) (box_of holder.now) at fields first.old first.new result }
 {
-    let mut walk = FieldWalk::new(Part::Block(C::class()), bytes, span.from, span.to);
+    let mut walk = FieldWalk::new(Part::Block(C::class()), window);
     let texts = next_payload(&mut walk);
-    let count = check_texts(bytes, texts.from, texts.to, first);
-    let seen = check_records::<C>(&mut walk, bytes, count, holder, around, first);
-    first.ask(span.at, FileKind::BadCount, is_count(seen.count));
+    let count = check_texts(window.part(texts.from, texts.to), first);
+    let seen = check_records::<C>(&mut walk, window.all(), count, holder, around, first);
+    first.ask(at, FileKind::BadCount, is_count(seen.count));
     seen
 }
 
@@ -78,7 +77,10 @@ fn check_records<C: CheckClass>(
         in_box: true,
     };
     while let Some(field) = walk.next() {
-        let checked = C::check(bytes, field, ordinal, before, texts, holder, around, first);
+        let payload = Window::new(bytes, field.from, field.to);
+        let checked = C::check(
+            payload, field.at, ordinal, before, texts, holder, around, first,
+        );
         ordinal = checked.ordinal;
         before = Some(checked.key);
         seen = with_record(seen, checked.in_box);

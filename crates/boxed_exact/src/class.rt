@@ -2,6 +2,7 @@
 
 ghost use Rattle.std.specs.Prelude.{◌≡◌, ◌≤◌, ◌+◌, Option, length, IfSome, Ok};
 ghost use Rattle.std.specs.Option.{option_map};
+ghost use Rattle.obf_wire.specs.Windows.{range_of};
 ghost use Rattle.file_grammar.specs.declared.parts.Boxed.{Boxed};
 ghost use Rattle.file_grammar.specs.declared.parts.Part.TheVariants.{Record as RecordPart};
 ghost use Rattle.file_grammar.specs.BoxRules.{Boxing};
@@ -15,7 +16,7 @@ ghost use Rattle.boxed_exact.specs.Sides.{AreRising, beside};
 use crate::around::Around;
 use crate::edges::Edges;
 use file_grammar::{Boxed as Class, FirstBreak};
-use obf_wire::Field;
+use obf_wire::Window;
 
 /// What was seen of a record that was checked: its ordinal, what the order of records goes by, and whether its points are
 /// in a box.
@@ -49,11 +50,11 @@ pub trait CheckClass {
     fn class() -> Class
         ensures { result ≡ class };
 
-    /// Checks every rule of the record in a field, whose form is good, after one of this ordinal and key, in a block of so many
+    /// Checks every rule of the record in a window, whose form is good and whose field begins at `at`, after one of this ordinal and key, in a block of so many
     /// texts, and whether its points are in a box.
     fn check(
-        bytes: &[u8],
-        field: Field,
+        window: Window<'_>,
+        at: usize,
         ordinal: u128,
         before: Option<Self::Key>,
         texts: usize,
@@ -61,30 +62,26 @@ pub trait CheckClass {
         around: &Around<'_>,
         first: &mut FirstBreak,
     ) -> Checked<Self::Key>
-        requires ordered { field.from ≤ field.to }
-        requires within { field.to ≤ length bytes.now }
         requires few { ordinal ≤ 340282366920938463444927863358058659840 }
         requires marks { AreRising around.now.marks }
-        ensures checked { (fields : Fields) (block : Block) (prev : Option Entry) → message_at (RecordPart class) (record { bytes = bytes.now; place = field.from; end = field.to }) ≡ Ok fields
+        ensures checked { (fields : Fields) (block : Block) (prev : Option Entry) → message_at (RecordPart class) (range_of window.entry) ≡ Ok fields
             → length block.texts ≡ texts → option_map key_of prev ≡ before
-            → IsRecordChecked boxing key_of (beside around.now) (box_of holder.now) block prev (record { at = field.at; ordinal = ordinal + step_of fields; fields = fields }) first.old first.new result.ordinal result.key result.in_box }
+            → IsRecordChecked boxing key_of (beside around.now) (box_of holder.now) block prev (record { at = at; ordinal = ordinal + step_of fields; fields = fields }) first.old first.new result.ordinal result.key result.in_box }
         ensures step { result.ordinal ≤ ordinal + 18446744073709551615 };
 
-    /// The record in a field, after one of this ordinal and key, in a block of so many texts: `Some` only where its form is good
+    /// The record in a window, whose field begins at `at`, after one of this ordinal and key, in a block of so many texts: `Some` only where its form is good
     /// and every rule holds, and its points are in the box. `None` says nothing.
     fn see(
-        bytes: &[u8],
-        field: Field,
+        window: Window<'_>,
+        at: usize,
         ordinal: u64,
         before: Option<Self::Key>,
         texts: usize,
         holder: &Edges,
         around: &Around<'_>,
     ) -> Option<Seen<Self::Key>>
-        requires ordered { field.from ≤ field.to }
-        requires within { field.to ≤ length bytes.now }
         requires few { ordinal ≤ 4503599627370496 }
         requires marks { AreRising around.now.marks }
-        ensures good { IfSome result (λ seen. IsGoodRecord class boxing key_of (beside around.now) (box_of holder.now) before texts ordinal field.at (record { bytes = bytes.now; place = field.from; end = field.to }) seen.ordinal seen.key) }
+        ensures good { IfSome result (λ seen. IsGoodRecord class boxing key_of (beside around.now) (box_of holder.now) before texts ordinal at (range_of window.entry) seen.ordinal seen.key) }
         ensures few { IfSome result (λ seen. seen.ordinal ≤ 4503599627370496) };
 }

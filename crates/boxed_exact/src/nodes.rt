@@ -2,6 +2,7 @@
 
 ghost use Rattle.std.specs.Prelude.{◌∷◌, [], nat_le, ◌≡◌, ◌≤◌, ◌<◌, ◌+◌, ◌&&◌, Ok, None, Some, length, IfOk, IfSome};
 ghost use Rattle.obf_wire.specs.Fields.{IsWindow};
+ghost use Rattle.obf_wire.specs.Windows.{range_of};
 ghost use Rattle.file_grammar.specs.BoxRules.{holds_box, is_box};
 ghost use Rattle.file_grammar.specs.Facts.{earlier, fact, first_failing};
 ghost use Rattle.obf_wire.specs.declared.file.FileKind.TheVariants.{BadBox, BadCount};
@@ -15,7 +16,7 @@ ghost use Rattle.boxed_exact.specs.Nodes.{IsBelowChecked, IsBelow, IsBelowPart, 
 use crate::edges::Edges;
 use crate::fields::{Number, next_number};
 use file_grammar::{FieldWalk, FirstBreak, Part};
-use obf_wire::FileKind;
+use obf_wire::{FileKind, Window};
 use owned_data::{Mem, NoMemory};
 
 /// The key of the place that a leaf names.
@@ -36,24 +37,20 @@ pub struct BelowSeen {
     pub held: bool,
 }
 
-/// Asks what has to hold of a node and those below it, and adds the leaves in their order. Answers the box of
+/// Asks what has to hold of the node in a window and those below it, and adds the leaves in their order. Answers the box of
 /// the node; a tree may have none.
 #[cycle(nodes)]
 pub fn check_nodes(
     part: Part,
-    bytes: &[u8],
-    from: usize,
-    to: usize,
+    window: Window<'_>,
     first: &mut FirstBreak,
     leaves: &mut Vec<LeafSeen>,
 ) -> Mem<Option<Edges>>
     requires part { IsTreePart part }
-    requires ordered { from ≤ to }
-    requires within { to ≤ length bytes.now }
-    ensures { IfOk result (λ found. (fields : Fields) → message_at part (record { bytes = bytes.now; place = from; end = to }) ≡ Ok fields
+    ensures { IfOk result (λ found. (fields : Fields) → message_at part (range_of window.entry) ≡ Ok fields
         → AreNodesChecked fields first.old first.new leaves.old.items leaves.new.items found) }
 {
-    let mut walk = FieldWalk::new(part, bytes, from, to);
+    let mut walk = FieldWalk::new(part, window);
     let Some(field) = walk.next() else {
         return Ok(None);
     };
@@ -70,7 +67,15 @@ pub fn check_nodes(
         right: right.value,
         bottom: bottom.value,
     };
-    let seen = check_below(&mut walk, part, bytes, left.at, &edges, first, leaves)?;
+    let seen = check_below(
+        &mut walk,
+        part,
+        window.all(),
+        left.at,
+        &edges,
+        first,
+        leaves,
+    )?;
     check_node(left.at, &edges, seen, first);
     Ok(Some(edges))
 }
@@ -109,7 +114,8 @@ fn check_below(
             };
             leaves.push(leaf)?;
         } else if let Some(below) = part_below(part) {
-            let found = check_nodes(below, bytes, field.from, field.to, first, leaves)?;
+            let inner = Window::new(bytes, field.from, field.to);
+            let found = check_nodes(below, inner, first, leaves)?;
             seen = with_node(seen, edges, found);
         }
     }

@@ -3,6 +3,8 @@
 ghost use Rattle.std.specs.Prelude.{◌≡◌, ◌≤◌, ◌<◌, ◌+◌, ◌*◌, ℕ, List, [], Ok, Some, length, IfSome, MatchOption, pos, int_le, ◌+ℤ◌, ◌&&◌};
 ghost use Rattle.std.specs.List.{list_all};
 ghost use Rattle.coord_delta.specs.Steps.{places};
+ghost use Rattle.obf_wire.specs.Fields.{part_of};
+ghost use Rattle.obf_wire.specs.Windows.{range_of};
 ghost use Rattle.obf_wire.specs.Zigzag.{unzigzag};
 ghost use Rattle.file_grammar.specs.BoxRules.{holds_place, is_on_grid};
 ghost use Rattle.file_grammar.specs.Readings.{numbers_at};
@@ -10,7 +12,7 @@ ghost use Rattle.boxed_exact.specs.Boxes.{box_of};
 ghost use Rattle.boxed_exact.specs.Numbers.{Continues, IsReached, IsStep};
 
 use crate::edges::Edges;
-use obf_wire::{read_varint, unzigzag};
+use obf_wire::{Window, read_varint, unzigzag};
 
 /// Where steps lead: without a limit, since steps may lead off the grid and back.
 #[derive(Clone, Copy, Debug)]
@@ -35,13 +37,11 @@ pub struct PointsSeen {
     pub in_box: bool,
 }
 
-/// Goes over the points whose steps stand from `from` up to `to`.
-pub fn see_points(bytes: &[u8], from: usize, to: usize, holder: &Edges) -> PointsSeen
-    requires ordered { from ≤ to }
-    requires within { to ≤ length bytes.now }
-    ensures count { (numbers : List ℕ) → numbers_at (record { bytes = bytes.now; place = from; end = to }) ≡ Ok numbers → result.count ≡ length (places numbers) }
-    ensures on_grid { (numbers : List ℕ) → numbers_at (record { bytes = bytes.now; place = from; end = to }) ≡ Ok numbers → result.on_grid ≡ list_all is_on_grid (places numbers) }
-    ensures in_box { (numbers : List ℕ) → numbers_at (record { bytes = bytes.now; place = from; end = to }) ≡ Ok numbers → result.in_box ≡ list_all (holds_place (box_of holder.now)) (places numbers) }
+/// Goes over the points whose steps stand in a window.
+pub fn see_points(window: Window<'_>, holder: &Edges) -> PointsSeen
+    ensures count { (numbers : List ℕ) → numbers_at (range_of window.entry) ≡ Ok numbers → result.count ≡ length (places numbers) }
+    ensures on_grid { (numbers : List ℕ) → numbers_at (range_of window.entry) ≡ Ok numbers → result.on_grid ≡ list_all is_on_grid (places numbers) }
+    ensures in_box { (numbers : List ℕ) → numbers_at (range_of window.entry) ≡ Ok numbers → result.in_box ≡ list_all (holds_place (box_of holder.now)) (places numbers) }
 {
     let mut spot = Spot { x: 0, y: 0 };
     let mut seen = PointsSeen {
@@ -49,8 +49,8 @@ pub fn see_points(bytes: &[u8], from: usize, to: usize, holder: &Edges) -> Point
         on_grid: true,
         in_box: true,
     };
-    let mut at = from;
-    while let Some(step) = next_step(bytes, at, to) {
+    let mut at = window.from();
+    while let Some(step) = next_step(window, at) {
         spot = moved(spot, step);
         seen = with_spot(seen, holder, spot);
         at = step.next;
@@ -85,18 +85,17 @@ fn with_spot(seen: PointsSeen, holder: &Edges, spot: Spot) -> PointsSeen
     }
 }
 
-/// The step that is next; `None` where less than two numbers are left.
-pub fn next_step(bytes: &[u8], at: usize, to: usize) -> Option<Step>
-    requires ordered { at ≤ to }
-    requires within { to ≤ length bytes.now }
-    ensures step { (numbers : List ℕ) → numbers_at (record { bytes = bytes.now; place = at; end = to }) ≡ Ok numbers
-        → IsStep (record { bytes = bytes.now; place = at; end = to }) numbers result }
-    ensures forward { IfSome result (λ step. (at + 2 ≤ step.next) × (step.next ≤ to)) }
+/// The step that is next at `at` in the window; `None` where less than two numbers are left.
+pub fn next_step(window: Window<'_>, at: usize) -> Option<Step>
+    requires { at ≤ window.to }
+    ensures step { (numbers : List ℕ) → numbers_at (part_of window.entry.bytes.now at window.entry.to) ≡ Ok numbers
+        → IsStep (part_of window.entry.bytes.now at window.entry.to) numbers result }
+    ensures forward { IfSome result (λ step. (at + 2 ≤ step.next) × (step.next ≤ window.entry.to)) }
 {
-    let Some((x, between)) = next_number(bytes, at, to) else {
+    let Some((x, between)) = next_number(window, at) else {
         return None;
     };
-    let Some((y, next)) = next_number(bytes, between, to) else {
+    let Some((y, next)) = next_number(window, between) else {
         return None;
     };
     Some(step_by(x, y, next))
@@ -116,17 +115,16 @@ fn step_by(x: u64, y: u64, next: usize) -> Step
 }
 
 /// The number that is next, and the place behind it; `None` at the end.
-fn next_number(bytes: &[u8], at: usize, to: usize) -> Option<(u64, usize)>
-    requires ordered { at ≤ to }
-    requires within { to ≤ length bytes.now }
-    ensures number { (numbers : List ℕ) → numbers_at (record { bytes = bytes.now; place = at; end = to }) ≡ Ok numbers
-        → MatchOption result (numbers ≡ []) (λ n. Continues (record { bytes = bytes.now; place = at; end = to }) numbers n.0 n.1) }
-    ensures forward { IfSome result (λ n. (at < n.1) × (n.1 ≤ to)) }
+fn next_number(window: Window<'_>, at: usize) -> Option<(u64, usize)>
+    requires { at ≤ window.to }
+    ensures number { (numbers : List ℕ) → numbers_at (part_of window.entry.bytes.now at window.entry.to) ≡ Ok numbers
+        → MatchOption result (numbers ≡ []) (λ n. Continues (part_of window.entry.bytes.now at window.entry.to) numbers n.0 n.1) }
+    ensures forward { IfSome result (λ n. (at < n.1) × (n.1 ≤ window.entry.to)) }
 {
-    if at == to {
+    if at == window.to() {
         return None;
     }
-    match read_varint(bytes, at, to) {
+    match read_varint(window.all(), at, window.to()) {
         Ok(number) => Some(number),
         Err(_) => None,
     }

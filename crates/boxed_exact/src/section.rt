@@ -10,6 +10,7 @@ ghost use Rattle.file_grammar.specs.Messages.{Fields};
 ghost use Rattle.file_grammar.specs.Readings.{break_in, message_at};
 ghost use Rattle.file_grammar.specs.Sections.{blocks_in, messages_in, section_in};
 ghost use Rattle.file_grammar.specs.Walks.{left_in};
+ghost use Rattle.obf_wire.specs.Windows.{range_of};
 ghost use Rattle.boxed_exact.specs.Boxes.{box_of};
 ghost use Rattle.boxed_exact.specs.Sides.{AreRising, beside};
 ghost use Rattle.boxed_exact.specs.Pairs.{AreBlocks, IsPairChecked, leaf_of, place_or};
@@ -19,71 +20,59 @@ use crate::around::Around;
 use crate::blocks::check_block;
 use crate::class::CheckClass;
 use crate::edges::Edges;
-use crate::fields::{Payload, next_payload};
+use crate::fields::next_payload;
 use crate::nodes::{LeafSeen, check_nodes};
 use file_grammar::{FieldWalk, FirstBreak, Part};
-use obf_wire::{FileBreak, FileError, FileKind};
+use obf_wire::{FileBreak, FileError, FileKind, Window};
 use std::alloc::Global;
 
-/// Whether a range of bytes is a section of the class, rule by rule: `Broken` with the first break of form, or else with the first
+/// Whether the bytes of a window are a section of the class, rule by rule: `Broken` with the first break of form, or else with the first
 /// rule that fails, exactly where there is one, unless memory was refused before.
 pub fn check_exactly<C: CheckClass>(
     alloc: Global,
-    bytes: &[u8],
-    from: usize,
-    to: usize,
+    window: Window<'_>,
     around: &Around<'_>,
 ) -> Result<(), FileError>
-    requires ordered { from ≤ to }
-    requires within { to ≤ length bytes.now }
     requires marks { AreRising around.now.marks }
-    ensures good { IfOk result (λ _. section_break C.class C.boxing (beside around.now) (record { bytes = bytes.now; place = from; end = to }) ≡ None) }
-    ensures broken { IfErr result (λ error. Breaks error (section_break C.class C.boxing (beside around.now) (record { bytes = bytes.now; place = from; end = to }))) }
+    ensures good { IfOk result (λ _. section_break C.class C.boxing (beside around.now) (range_of window.entry) ≡ None) }
+    ensures broken { IfErr result (λ error. Breaks error (section_break C.class C.boxing (beside around.now) (range_of window.entry))) }
 {
-    check_form::<C>(bytes, from, to)?;
-    check_rules::<C>(alloc, bytes, from, to, around)
+    check_form::<C>(window)?;
+    check_rules::<C>(alloc, window, around)
 }
 
 /// Whether the bytes have the form of a section of the class: `Err` with the first break of form exactly where they have not. It
 /// takes no memory.
-fn check_form<C: CheckClass>(bytes: &[u8], from: usize, to: usize) -> Result<(), FileBreak>
-    requires ordered { from ≤ to }
-    requires within { to ≤ length bytes.now }
-    ensures { break_in result ≡ break_in (message_at (Boxes C.class) (record { bytes = bytes.now; place = from; end = to })) }
+fn check_form<C: CheckClass>(window: Window<'_>) -> Result<(), FileBreak>
+    ensures { break_in result ≡ break_in (message_at (Boxes C.class) (range_of window.entry)) }
 {
-    file_grammar::form(Part::Boxes(C::class()), bytes, from, to)
+    file_grammar::form(Part::Boxes(C::class()), window)
 }
 
 /// Whether every rule holds of a section of good form: its boxes, the places of its blocks, its texts and its records.
 /// `Broken` with the first break exactly where something does not hold.
 fn check_rules<C: CheckClass>(
     alloc: Global,
-    bytes: &[u8],
-    from: usize,
-    to: usize,
+    window: Window<'_>,
     around: &Around<'_>,
 ) -> Result<(), FileError>
-    requires ordered { from ≤ to }
-    requires within { to ≤ length bytes.now }
     requires marks { AreRising around.now.marks }
-    ensures good { IfOk result (λ _. (fields : Fields) → message_at (Boxes C.class) (record { bytes = bytes.now; place = from; end = to }) ≡ Ok fields
+    ensures good { IfOk result (λ _. (fields : Fields) → message_at (Boxes C.class) (range_of window.entry) ≡ Ok fields
         → first_failing (section_facts C.boxing (beside around.now) (section_in fields)) ≡ None) }
-    ensures broken { IfErr result (λ error. (fields : Fields) → message_at (Boxes C.class) (record { bytes = bytes.now; place = from; end = to }) ≡ Ok fields
+    ensures broken { IfErr result (λ error. (fields : Fields) → message_at (Boxes C.class) (range_of window.entry) ≡ Ok fields
         → Breaks error (first_failing (section_facts C.boxing (beside around.now) (section_in fields)))) }
 {
     let mut first = FirstBreak::none();
     let mut leaves = Vec::new(alloc);
-    let mut walk = FieldWalk::new(Part::Boxes(C::class()), bytes, from, to);
+    let mut walk = FieldWalk::new(Part::Boxes(C::class()), window);
     let tree = next_payload(&mut walk);
     check_nodes(
         Part::Tree,
-        bytes,
-        tree.from,
-        tree.to,
+        window.part(tree.from, tree.to),
         &mut first,
         &mut leaves,
     )?;
-    check_blocks::<C>(&mut walk, bytes, &leaves, around, &mut first);
+    check_blocks::<C>(&mut walk, window.all(), &leaves, around, &mut first);
     match first.found() {
         None => Ok(()),
         Some(found) => Err(FileError::Broken(found)),
@@ -110,12 +99,8 @@ fn check_blocks<C: CheckClass>(
     let mut start = None;
     while let Some(field) = walk.next() {
         let place = first_of(start, field.at);
-        let span = Payload {
-            at: field.at,
-            from: field.from,
-            to: field.to,
-        };
-        check_paired::<C>(bytes, span, rest, place, around, first);
+        let block = Window::new(bytes, field.from, field.to);
+        check_paired::<C>(block, field.at, rest, place, around, first);
         rest = behind_first(rest);
         start = Some(place);
     }
@@ -143,60 +128,54 @@ fn behind_first(leaves: &[LeafSeen]) -> &[LeafSeen]
 
 /// A block, with the first of these leaves, where there is one. The first block of the section stands at `start`.
 fn check_paired<C: CheckClass>(
-    bytes: &[u8],
-    span: Payload,
+    window: Window<'_>,
+    at: usize,
     leaves: &[LeafSeen],
     start: usize,
     around: &Around<'_>,
     first: &mut FirstBreak,
 )
     requires marks { AreRising around.now.marks }
-    requires ordered { span.from ≤ span.to }
-    requires within { span.to ≤ length bytes.now }
-    ensures { (fields : Fields) → message_at (Block C.class) (record { bytes = bytes.now; place = span.from; end = span.to }) ≡ Ok fields
-        → IsPairChecked C.boxing (beside around.now) span.at start leaves.now fields first.old first.new }
+    ensures { (fields : Fields) → message_at (Block C.class) (range_of window.entry) ≡ Ok fields
+        → IsPairChecked C.boxing (beside around.now) at start leaves.now fields first.old first.new }
 {
     match leaves.first() {
-        None => check_without_leaf::<C>(bytes, span, around, first),
-        Some(leaf) => check_with_leaf::<C>(bytes, span, leaf, start, around, first),
+        None => check_without_leaf::<C>(window, at, around, first),
+        Some(leaf) => check_with_leaf::<C>(window, at, leaf, start, around, first),
     }
 }
 
 fn check_without_leaf<C: CheckClass>(
-    bytes: &[u8],
-    span: Payload,
+    window: Window<'_>,
+    at: usize,
     around: &Around<'_>,
     first: &mut FirstBreak,
 )
     requires marks { AreRising around.now.marks }
-    requires ordered { span.from ≤ span.to }
-    requires within { span.to ≤ length bytes.now }
-    ensures { (fields : Fields) → message_at (Block C.class) (record { bytes = bytes.now; place = span.from; end = span.to }) ≡ Ok fields
-        → IsPairChecked C.boxing (beside around.now) span.at 0 [] fields first.old first.new }
+    ensures { (fields : Fields) → message_at (Block C.class) (range_of window.entry) ≡ Ok fields
+        → IsPairChecked C.boxing (beside around.now) at 0 [] fields first.old first.new }
 {
-    check_block::<C>(bytes, span, &NO_BOX, around, first);
-    first.ask(span.at, FileKind::BadPlace, false);
+    check_block::<C>(window, at, &NO_BOX, around, first);
+    first.ask(at, FileKind::BadPlace, false);
 }
 
 fn check_with_leaf<C: CheckClass>(
-    bytes: &[u8],
-    span: Payload,
+    window: Window<'_>,
+    at: usize,
     leaf: &LeafSeen,
     start: usize,
     around: &Around<'_>,
     first: &mut FirstBreak,
 )
     requires marks { AreRising around.now.marks }
-    requires ordered { span.from ≤ span.to }
-    requires within { span.to ≤ length bytes.now }
-    ensures { (fields : Fields) → message_at (Block C.class) (record { bytes = bytes.now; place = span.from; end = span.to }) ≡ Ok fields
-        → IsPairChecked C.boxing (beside around.now) span.at start (leaf.now ∷ []) fields first.old first.new }
+    ensures { (fields : Fields) → message_at (Block C.class) (range_of window.entry) ≡ Ok fields
+        → IsPairChecked C.boxing (beside around.now) at start (leaf.now ∷ []) fields first.old first.new }
 {
-    let seen = check_block::<C>(bytes, span, &leaf.edges, around, first);
+    let seen = check_block::<C>(window, at, &leaf.edges, around, first);
     first.ask(
         leaf.place.at,
         FileKind::BadPlace,
-        is_place(start, leaf.place.value, span.at),
+        is_place(start, leaf.place.value, at),
     );
     first.ask(leaf.at, FileKind::BadBox, seen.in_box);
 }

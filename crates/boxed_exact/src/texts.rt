@@ -9,23 +9,23 @@ ghost use Rattle.file_grammar.specs.Facts.{earlier, first_failing};
 ghost use Rattle.file_grammar.specs.Messages.{Fields};
 ghost use Rattle.file_grammar.specs.Readings.{message_at};
 ghost use Rattle.file_grammar.specs.Sections.{texts_in};
+ghost use Rattle.obf_wire.specs.Windows.{range_of};
 ghost use Rattle.text_table.specs.Tables.{text_cmp};
 ghost use Rattle.boxed_exact.specs.Fields.{is_text_behind};
 
 use file_grammar::{FieldWalk, FirstBreak, Part};
-use obf_wire::FileKind;
+use obf_wire::{FileKind, Window};
 use std::cmp::Ordering;
 use std::str::from_utf8;
 
-/// Asks what has to hold of the texts that stand from `from` up to `to`, and counts them.
-pub(crate) fn check_texts(bytes: &[u8], from: usize, to: usize, first: &mut FirstBreak) -> usize
-    requires ordered { from ≤ to }
-    requires within { to ≤ length bytes.now }
-    ensures asked { (fields : Fields) → message_at Texts (record { bytes = bytes.now; place = from; end = to }) ≡ Ok fields
+/// Asks what has to hold of the texts in a window, and counts them.
+pub(crate) fn check_texts(window: Window<'_>, first: &mut FirstBreak) -> usize
+    ensures asked { (fields : Fields) → message_at Texts (range_of window.entry) ≡ Ok fields
         → first.new ≡ earlier first.old (first_failing (map text_fact (with_before None (texts_in fields)))) }
-    ensures counted { (fields : Fields) → message_at Texts (record { bytes = bytes.now; place = from; end = to }) ≡ Ok fields → result ≡ length (texts_in fields) }
+    ensures counted { (fields : Fields) → message_at Texts (range_of window.entry) ≡ Ok fields → result ≡ length (texts_in fields) }
 {
-    let mut walk = FieldWalk::new(Part::Texts, bytes, from, to);
+    let bytes = window.all();
+    let mut walk = FieldWalk::new(Part::Texts, window);
     let mut before: &[u8] = &[];
     let mut count = 0;
     while let Some(field) = walk.next() {

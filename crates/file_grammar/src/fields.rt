@@ -2,12 +2,13 @@
 
 ghost use Rattle.std.specs.Prelude.{◌≡◌, ◌<◌, ◌≤◌, None, Some, Ok, length, IfSome, MatchOption};
 ghost use Rattle.obf_wire.specs.Fields.{IsWindow};
+ghost use Rattle.obf_wire.specs.Windows.{range_of};
 ghost use Rattle.file_grammar.specs.Messages.{Fields, ends};
 ghost use Rattle.file_grammar.specs.Walks.{IsInside, IsNext, Standing, left_in};
 
 use crate::parts::Part;
 use crate::walk::next_field;
-use obf_wire::{Cursor, Field};
+use obf_wire::{Cursor, Field, Window};
 use std::marker::Model;
 
 /// Goes over the fields of a message whose form was found good. It stands at the message's beginning, or
@@ -31,14 +32,12 @@ impl<'a> Model for FieldWalk<'a> {
 }
 
 impl<'a> FieldWalk<'a> {
-    /// At the beginning of the message from `from` up to `to`.
-    pub fn new(part: Part, bytes: &'a [u8], from: usize, to: usize) -> FieldWalk<'a>
-        requires ordered { from ≤ to }
-        requires within { to ≤ length bytes.now }
-        ensures { result ≡ record { part = part; last = None; window = record { bytes = bytes.now; place = from; end = to } } }
+    /// At the beginning of the message in a window.
+    pub fn new(part: Part, window: Window<'a>) -> FieldWalk<'a>
+        ensures { result ≡ record { part = part; last = None; window = range_of window.entry } }
     {
         FieldWalk {
-            cursor: Cursor::new(bytes, from, to),
+            cursor: Cursor::new(window),
             part,
             last: None,
         }

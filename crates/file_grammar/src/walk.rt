@@ -2,7 +2,8 @@
 
 ghost use Rattle.std.specs.Prelude.{◌==◌, if◌then◌else◌, Ok, ◌≡◌, ◌<◌, ◌≤◌, length, None, Some, IfOk, IfErr, OnErr, MatchOption, MatchResult, IfSome};
 ghost use Rattle.std.specs.Option.{option_or};
-ghost use Rattle.obf_wire.specs.Fields.{IsWindow, behind};
+ghost use Rattle.obf_wire.specs.Fields.{IsWindow, behind, part_of};
+ghost use Rattle.obf_wire.specs.Windows.{range_of};
 ghost use Rattle.obf_wire.specs.declared.file.FileKind.TheVariants.{BadVersion};
 ghost use Rattle.file_grammar.specs.Tables.{content_of};
 ghost use Rattle.file_grammar.specs.Messages.{Fields};
@@ -11,20 +12,18 @@ ghost use Rattle.file_grammar.specs.Readings.{break_in, filled, groups_at, measu
 
 use crate::parts::{Content, Group, Part};
 use crate::tables::{content, next_fields};
-use obf_wire::{Cursor, Field, FileBreak, FileKind, WireBreak, read_varint};
+use obf_wire::{Cursor, Field, FileBreak, FileKind, Window, WireBreak, read_varint};
 
-/// Whether the bytes from `from` up to `to` are a message of this form: `Err` with the first break of form
-/// exactly where they are not. It takes no memory.
+/// Whether the bytes of a window are a message of this form: `Err` with the first break of form exactly where they are not. It
+/// takes no memory.
 #[cycle(messages)]
-pub fn form(part: Part, bytes: &[u8], from: usize, to: usize) -> Result<(), FileBreak>
-    requires ordered { from ≤ to }
-    requires within { to ≤ length bytes.now }
-    ensures { break_in result ≡ break_in (message_at part (record { bytes = bytes.now; place = from; end = to })) }
+pub fn form(part: Part, window: Window<'_>) -> Result<(), FileBreak>
+    ensures { break_in result ≡ break_in (message_at part (range_of window.entry)) }
 {
-    let mut cursor = Cursor::new(bytes, from, to);
+    let mut cursor = Cursor::new(window);
     let mut last = None;
     while let Some(field) = next_field(&mut cursor, part, last)? {
-        inside(part, bytes, &field)?;
+        inside(part, window.all(), &field)?;
         last = Some(field.key);
     }
     Ok(())
@@ -83,8 +82,8 @@ fn inside(part: Part, bytes: &[u8], field: &Field) -> Result<(), FileBreak>
         Some(Content::Number) => Ok(()),
         Some(Content::Version) => version(field),
         Some(Content::Bytes) => Ok(()),
-        Some(Content::Numbers(group)) => numbers(group, bytes, field.from, field.to),
-        Some(Content::Message(inner)) => form(inner, bytes, field.from, field.to),
+        Some(Content::Numbers(group)) => numbers(group, Window::new(bytes, field.from, field.to)),
+        Some(Content::Message(inner)) => form(inner, Window::new(bytes, field.from, field.to)),
     }
 }
 
@@ -102,46 +101,41 @@ fn version(field: &Field) -> Result<(), FileBreak>
 }
 
 // A list of numbers in whole groups.
-fn numbers(group: Group, bytes: &[u8], from: usize, to: usize) -> Result<(), FileBreak>
-    requires ordered { from ≤ to }
-    requires within { to ≤ length bytes.now }
-    ensures { break_in result ≡ break_in (groups_at group (record { bytes = bytes.now; place = from; end = to })) }
+fn numbers(group: Group, window: Window<'_>) -> Result<(), FileBreak>
+    ensures { break_in result ≡ break_in (groups_at group (range_of window.entry)) }
 {
-    let count = count_numbers(bytes, from, to)?;
+    let count = count_numbers(window)?;
     if count % group.size() == 0 {
         Ok(())
     } else {
         Err(FileBreak {
-            at: to,
+            at: window.to(),
             kind: FileKind::Short,
         })
     }
 }
 
 // How many numbers stand there.
-fn count_numbers(bytes: &[u8], from: usize, to: usize) -> Result<usize, FileBreak>
-    requires ordered { from ≤ to }
-    requires within { to ≤ length bytes.now }
-    ensures { result ≡ measured 0 (numbers_at (record { bytes = bytes.now; place = from; end = to })) }
+fn count_numbers(window: Window<'_>) -> Result<usize, FileBreak>
+    ensures { result ≡ measured 0 (numbers_at (range_of window.entry)) }
 {
-    let mut at = from;
+    let mut at = window.from();
     let mut count = 0;
-    while at < to {
-        at = next_number(bytes, at, to)?;
+    while at < window.to() {
+        at = next_number(window, at)?;
         count += 1;
     }
     Ok(count)
 }
 
 // Behind the number that stands there.
-fn next_number(bytes: &[u8], at: usize, to: usize) -> Result<usize, FileBreak>
-    requires ordered { at < to }
-    requires within { to ≤ length bytes.now }
-    ensures on { IfOk result (λ next. CountsOn (record { bytes = bytes.now; place = at; end = to }) next) }
-    ensures broken { IfErr result (CountsNone (record { bytes = bytes.now; place = at; end = to })) }
-    ensures forward { IfOk result (λ next. (at < next) × (next ≤ to)) }
+fn next_number(window: Window<'_>, at: usize) -> Result<usize, FileBreak>
+    requires { at < window.to }
+    ensures on { IfOk result (λ next. CountsOn (part_of window.entry.bytes.now at window.entry.to) next) }
+    ensures broken { IfErr result (CountsNone (part_of window.entry.bytes.now at window.entry.to)) }
+    ensures forward { IfOk result (λ next. (at < next) × (next ≤ window.entry.to)) }
 {
-    match read_varint(bytes, at, to) {
+    match read_varint(window.all(), at, window.to()) {
         Ok((_, next)) => Ok(next),
         Err(b) => Err(FileBreak::from(b)),
     }

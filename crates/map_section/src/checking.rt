@@ -2,6 +2,7 @@
 
 ghost use Rattle.std.specs.Prelude.{◌≡◌, ◌≤◌, ◌+◌, Option, Ok, length, IfSome};
 ghost use Rattle.std.specs.Option.{option_map};
+ghost use Rattle.obf_wire.specs.Windows.{range_of};
 ghost use Rattle.file_grammar.specs.declared.parts.Boxed.TheVariants.{Map};
 ghost use Rattle.file_grammar.specs.declared.parts.Part.TheVariants.{Record};
 ghost use Rattle.file_grammar.specs.MapRules.{map_boxing};
@@ -21,7 +22,7 @@ use crate::record_rules::{EntrySeen, Key, check_entry, is_good};
 use boxed_check::points_in;
 use boxed_exact::{Around, CheckClass, Checked, Edges, Seen, see_points};
 use file_grammar::{Boxed, FirstBreak};
-use obf_wire::{Field, expected};
+use obf_wire::{Window, expected};
 
 /// The keys of a map record: the step to its ordinal, its rule, its shape, its name, and the steps from point to point.
 const STEP: u8 = 8;
@@ -68,8 +69,8 @@ impl CheckClass for MapClass {
 
     #[tactic(auto, using(crate::proofs::RecordFacts::record_checked))]
     fn check(
-        bytes: &[u8],
-        field: Field,
+        window: Window<'_>,
+        at: usize,
         ordinal: u128,
         before: Option<Key>,
         texts: usize,
@@ -77,16 +78,14 @@ impl CheckClass for MapClass {
         around: &Around<'_>,
         first: &mut FirstBreak,
     ) -> Checked<Key>
-        requires ordered { field.from ≤ field.to }
-        requires within { field.to ≤ length bytes.now }
         requires few { ordinal ≤ 340282366920938463444927863358058659840 }
         requires marks { AreRising around.now.marks }
-        ensures checked { (fields : Fields) (block : Block) (prev : Option Entry) → message_at (Record Map) (record { bytes = bytes.now; place = field.from; end = field.to }) ≡ Ok fields
+        ensures checked { (fields : Fields) (block : Block) (prev : Option Entry) → message_at (Record Map) (range_of window.entry) ≡ Ok fields
             → length block.texts ≡ texts → option_map key_of prev ≡ before
-            → IsRecordChecked map_boxing key_of (beside around.now) (box_of holder.now) block prev (record { at = field.at; ordinal = ordinal + step_of fields; fields = fields }) first.old first.new result.ordinal result.key result.in_box }
+            → IsRecordChecked map_boxing key_of (beside around.now) (box_of holder.now) block prev (record { at = at; ordinal = ordinal + step_of fields; fields = fields }) first.old first.new result.ordinal result.key result.in_box }
         ensures step { result.ordinal ≤ ordinal + 18446744073709551615 }
     {
-        let entry = see_entry(bytes, field, ordinal, holder);
+        let entry = see_entry(window, at, ordinal, holder);
         check_entry(&entry, before, texts, around, first);
         Checked {
             ordinal: entry.ordinal,
@@ -96,28 +95,26 @@ impl CheckClass for MapClass {
     }
 
     fn see(
-        bytes: &[u8],
-        field: Field,
+        window: Window<'_>,
+        at: usize,
         ordinal: u64,
         before: Option<Key>,
         texts: usize,
         holder: &Edges,
         around: &Around<'_>,
     ) -> Option<Seen<Key>>
-        requires ordered { field.from ≤ field.to }
-        requires within { field.to ≤ length bytes.now }
         requires few { ordinal ≤ 4503599627370496 }
         requires marks { AreRising around.now.marks }
-        ensures good { IfSome result (λ seen. IsGoodRecord Map map_boxing key_of (beside around.now) (box_of holder.now) before texts ordinal field.at (record { bytes = bytes.now; place = field.from; end = field.to }) seen.ordinal seen.key) }
+        ensures good { IfSome result (λ seen. IsGoodRecord Map map_boxing key_of (beside around.now) (box_of holder.now) before texts ordinal at (range_of window.entry) seen.ordinal seen.key) }
         ensures few { IfSome result (λ seen. seen.ordinal ≤ 4503599627370496) }
     {
-        let Some(read) = read_fields(bytes, field.from, field.to) else {
+        let Some(read) = read_fields(window) else {
             return None;
         };
         if read.step > FARTHEST {
             return None;
         }
-        let Some(count) = points_in(bytes, read.from, read.to, holder) else {
+        let Some(count) = points_in(window.part(read.from, read.to), holder) else {
             return None;
         };
         let next = ordinal + read.step;
@@ -132,21 +129,20 @@ impl CheckClass for MapClass {
     }
 }
 
-/// The record in a field, after one of this ordinal.
-fn see_entry(bytes: &[u8], field: Field, ordinal: u128, holder: &Edges) -> EntrySeen
-    requires ordered { field.from ≤ field.to }
-    requires within { field.to ≤ length bytes.now }
+/// The record in a window, whose field begins at `at`, after one of this ordinal.
+fn see_entry(window: Window<'_>, at: usize, ordinal: u128, holder: &Edges) -> EntrySeen
     requires few { ordinal ≤ 340282366920938463444927863358058659840 }
-    ensures seen { (fields : Fields) → message_at (Record Map) (record { bytes = bytes.now; place = field.from; end = field.to }) ≡ Ok fields
-        → IsSeen (box_of holder.now) (record { at = field.at; ordinal = ordinal + step_of fields; fields = fields }) result }
+    ensures seen { (fields : Fields) → message_at (Record Map) (range_of window.entry) ≡ Ok fields
+        → IsSeen (box_of holder.now) (record { at = at; ordinal = ordinal + step_of fields; fields = fields }) result }
     ensures step { result.ordinal ≤ ordinal + 18446744073709551615 }
 {
-    let fields = read_entry(bytes, field.from, field.to);
+    let fields = read_entry(window);
+    let points = window.part(fields.points.from, fields.points.to);
     EntrySeen {
-        at: field.at,
+        at,
         ordinal: ordinal + u128::from(fields.step.value),
         fields,
-        points: see_points(bytes, fields.points.from, fields.points.to, holder),
+        points: see_points(points, holder),
     }
 }
 
@@ -160,29 +156,27 @@ fn key_of(entry: &EntrySeen) -> Key
     }
 }
 
-/// The fields of the record that stands from `from` up to `to`, in a straight line.
-fn read_fields(bytes: &[u8], from: usize, to: usize) -> Option<MapRead>
-    requires ordered { from ≤ to }
-    requires within { to ≤ length bytes.now }
-    ensures read { IfSome result (IsMapRead (record { bytes = bytes.now; place = from; end = to })) }
-    ensures ordered { IfSome result (λ read. (read.from ≤ read.to) × (read.to ≤ to)) }
+/// The fields of the record in a window, in a straight line.
+fn read_fields(window: Window<'_>) -> Option<MapRead>
+    ensures read { IfSome result (IsMapRead (range_of window.entry)) }
+    ensures ordered { IfSome result (λ read. (read.from ≤ read.to) × (read.to ≤ window.entry.to)) }
 {
-    let Some(step) = expected(bytes, from, to, STEP) else {
+    let Some(step) = expected(window, window.from(), STEP) else {
         return None;
     };
-    let Some(rule) = expected(bytes, step.to, to, RULE) else {
+    let Some(rule) = expected(window, step.to, RULE) else {
         return None;
     };
-    let Some(shape) = expected(bytes, rule.to, to, SHAPE) else {
+    let Some(shape) = expected(window, rule.to, SHAPE) else {
         return None;
     };
-    let Some(name) = expected(bytes, shape.to, to, NAME) else {
+    let Some(name) = expected(window, shape.to, NAME) else {
         return None;
     };
-    let Some(points) = expected(bytes, name.to, to, POINTS) else {
+    let Some(points) = expected(window, name.to, POINTS) else {
         return None;
     };
-    if points.to != to {
+    if points.to != window.to() {
         return None;
     }
     Some(MapRead {

@@ -6,6 +6,7 @@
 
 ghost use Rattle.std.specs.Prelude.{◌≡◌, ◌≤◌, ◌<◌, ◌^◌, ◌+◌, ◌++◌, ◌∷◌, ℕ, List, [], Ok, map, true, flat_map, length, pos, ◌+ℤ◌, ◌≤ℤ◌, slice_range, IfOk, IsUtf8};
 ghost use Rattle.obf_wire.specs.Fields.{IsWindow};
+ghost use Rattle.obf_wire.specs.Windows.{range_of};
 ghost use Rattle.coord_delta.specs.Steps.{places};
 ghost use Rattle.file_grammar.specs.declared.parts.Boxed.TheVariants.{Map};
 ghost use Rattle.file_grammar.specs.declared.parts.Part.TheVariants.{Block, Boxes, Record, Texts};
@@ -24,7 +25,7 @@ use crate::entries::{EntryFields, read_entry};
 use boxed_exact::{Step, next_payload, next_step};
 use file_grammar::{Boxed, FieldWalk, Part};
 use live_model::{MapRec, ObjId, Point, Shape};
-use obf_wire::Field;
+use obf_wire::Window;
 use owned_data::{List, Mem, Text};
 use std::alloc::Global;
 use std::str::from_utf8;
@@ -44,7 +45,10 @@ impl Section {
         ensures { IfOk result (λ records. (fields : Fields) → message_at (Boxes Map) (record { bytes = bytes.now; place = self.now.from; end = self.now.to }) ≡ Ok fields
             → records.items ≡ map_records_in (section_in fields)) }
     {
-        let mut walk = FieldWalk::new(Part::Boxes(Boxed::Map), bytes, self.from, self.to);
+        let mut walk = FieldWalk::new(
+            Part::Boxes(Boxed::Map),
+            Window::new(bytes, self.from, self.to),
+        );
         next_payload(&mut walk);
         list_blocks(alloc, &mut walk, bytes)
     }
@@ -61,34 +65,35 @@ fn list_blocks(alloc: Global, walk: &mut FieldWalk<'_>, bytes: &[u8]) -> Mem<Vec
 {
     let mut records = Vec::new(alloc);
     while let Some(field) = walk.next() {
-        list_block(alloc, bytes, field, &mut records)?;
+        list_block(
+            alloc,
+            Window::new(bytes, field.from, field.to),
+            &mut records,
+        )?;
     }
     Ok(records)
 }
 
-// Appends the records of the block in a field.
-fn list_block(alloc: Global, bytes: &[u8], field: Field, records: &mut Vec<MapRec>) -> Mem<()>
-    requires ordered { field.from ≤ field.to }
-    requires within { field.to ≤ length bytes.now }
-    requires sound { HoldsBlock (record { bytes = bytes.now; place = field.from; end = field.to }) }
-    ensures { IfOk result (λ _. (fields : Fields) → message_at (Block Map) (record { bytes = bytes.now; place = field.from; end = field.to }) ≡ Ok fields
+// Appends the records of the block in a window.
+fn list_block(alloc: Global, window: Window<'_>, records: &mut Vec<MapRec>) -> Mem<()>
+    requires { HoldsBlock (range_of window) }
+    ensures { IfOk result (λ _. (fields : Fields) → message_at (Block Map) (range_of window.entry) ≡ Ok fields
         → records.new.items ≡ records.old.items ++ block_records fields) }
 {
-    let mut walk = FieldWalk::new(Part::Block(Boxed::Map), bytes, field.from, field.to);
+    let mut walk = FieldWalk::new(Part::Block(Boxed::Map), window);
     let span = next_payload(&mut walk);
-    let texts = read_texts(alloc, bytes, span.from, span.to)?;
-    list_records(alloc, &mut walk, bytes, &texts, records)
+    let texts = read_texts(alloc, window.part(span.from, span.to))?;
+    list_records(alloc, &mut walk, window.all(), &texts, records)
 }
 
-// The texts that stand from `from` up to `to`.
-fn read_texts<'a>(alloc: Global, bytes: &'a [u8], from: usize, to: usize) -> Mem<Vec<&'a str>>
-    requires ordered { from ≤ to }
-    requires within { to ≤ length bytes.now }
-    requires sound { HoldsTexts (record { bytes = bytes.now; place = from; end = to }) }
-    ensures { IfOk result (λ texts. (fields : Fields) → message_at Texts (record { bytes = bytes.now; place = from; end = to }) ≡ Ok fields
+// The texts in a window.
+fn read_texts<'a>(alloc: Global, window: Window<'a>) -> Mem<Vec<&'a str>>
+    requires { HoldsTexts (range_of window) }
+    ensures { IfOk result (λ texts. (fields : Fields) → message_at Texts (range_of window.entry) ≡ Ok fields
         → texts_held (texts_in fields) ≡ texts_seen texts.items) }
 {
-    let mut walk = FieldWalk::new(Part::Texts, bytes, from, to);
+    let bytes = window.all();
+    let mut walk = FieldWalk::new(Part::Texts, window);
     let mut texts = Vec::new(alloc);
     while let Some(field) = walk.next() {
         texts.push(text_at(bytes, field.from, field.to))?;
@@ -123,30 +128,28 @@ fn list_records(
 {
     let mut ordinal = 0;
     while let Some(field) = walk.next() {
-        ordinal = list_record(alloc, bytes, field, ordinal, texts, records)?;
+        let payload = Window::new(bytes, field.from, field.to);
+        ordinal = list_record(alloc, payload, ordinal, texts, records)?;
     }
     Ok(())
 }
 
-// Appends the record in a field, behind one of this ordinal, and tells its own.
+// Appends the record in a window, behind one of this ordinal, and tells its own.
 fn list_record(
     alloc: Global,
-    bytes: &[u8],
-    field: Field,
+    window: Window<'_>,
     before: u64,
     texts: &[&str],
     records: &mut Vec<MapRec>,
 ) -> Mem<u64>
-    requires ordered { field.from ≤ field.to }
-    requires within { field.to ≤ length bytes.now }
-    requires sound { HoldsRecord before (record { bytes = bytes.now; place = field.from; end = field.to }) }
-    ensures ordinal { IfOk result (λ ordinal. (fields : Fields) → message_at (Record Map) (record { bytes = bytes.now; place = field.from; end = field.to }) ≡ Ok fields → ordinal ≡ before + step_of fields) }
-    ensures listed { IfOk result (λ _. (fields : Fields) (block : BlockOf) → message_at (Record Map) (record { bytes = bytes.now; place = field.from; end = field.to }) ≡ Ok fields → texts_held block.texts ≡ texts_seen texts.now
-        → records.new.items ≡ records.old.items ++ record_of block (record { at = field.at; ordinal = before + step_of fields; fields = fields }) ∷ []) }
+    requires { HoldsRecord before (range_of window) }
+    ensures ordinal { IfOk result (λ ordinal. (fields : Fields) → message_at (Record Map) (range_of window.entry) ≡ Ok fields → ordinal ≡ before + step_of fields) }
+    ensures listed { IfOk result (λ _. (at : ℕ) (fields : Fields) (block : BlockOf) → message_at (Record Map) (range_of window.entry) ≡ Ok fields → texts_held block.texts ≡ texts_seen texts.now
+        → records.new.items ≡ records.old.items ++ record_of block (record { at = at; ordinal = before + step_of fields; fields = fields }) ∷ []) }
 {
-    let fields = read_entry(bytes, field.from, field.to);
+    let fields = read_entry(window);
     let ordinal = before + fields.step.value;
-    records.push(read_record(alloc, bytes, &fields, ordinal, texts)?)?;
+    records.push(read_record(alloc, window.all(), &fields, ordinal, texts)?)?;
     Ok(ordinal)
 }
 
@@ -167,7 +170,8 @@ fn read_record(
         → item ≡ map_record_of block entry f) }
 {
     let name = Text::copied(alloc, text_of(texts, fields.name.value))?;
-    let points = read_points(alloc, bytes, fields.points.from, fields.points.to)?;
+    let steps = Window::new(bytes, fields.points.from, fields.points.to);
+    let points = read_points(alloc, steps)?;
     Ok(MapRec {
         id: object(ordinal),
         rule: fields.rule.value as u32,
@@ -209,17 +213,15 @@ fn text_of<'a>(texts: &[&'a str], number: u64) -> &'a str
     }
 }
 
-// The points whose steps stand from `from` up to `to`.
-fn read_points(alloc: Global, bytes: &[u8], from: usize, to: usize) -> Mem<Vec<Point>>
-    requires ordered { from ≤ to }
-    requires within { to ≤ length bytes.now }
-    requires sound { HoldsSteps (pos 0, pos 0) (record { bytes = bytes.now; place = from; end = to }) }
-    ensures { IfOk result (λ points. (numbers : List ℕ) → numbers_at (record { bytes = bytes.now; place = from; end = to }) ≡ Ok numbers → points.items ≡ map point_from (places numbers)) }
+// The points whose steps stand in a window.
+fn read_points(alloc: Global, window: Window<'_>) -> Mem<Vec<Point>>
+    requires { HoldsSteps (pos 0, pos 0) (range_of window) }
+    ensures { IfOk result (λ points. (numbers : List ℕ) → numbers_at (range_of window.entry) ≡ Ok numbers → points.items ≡ map point_from (places numbers)) }
 {
     let mut point = Point { x: 0, y: 0 };
     let mut points = Vec::new(alloc);
-    let mut at = from;
-    while let Some(step) = next_step(bytes, at, to) {
+    let mut at = window.from();
+    while let Some(step) = next_step(window, at) {
         point = point_behind(point, step);
         points.push(point)?;
         at = step.next;

@@ -60,6 +60,10 @@ pub record Window : Type 0 where
   pub place : ℕ
   pub end : ℕ
 
+-- the bytes from one place up to another
+abbrev pub part_of : List ℕ → ℕ → ℕ → Window
+part_of bytes place end = record { bytes = bytes; place = place; end = end }
+
 pub record IsWindow (w : Window) : Type 0 where
   pub ordered : w.place ≤ w.end
   pub within : w.end ≤ length w.bytes

@@ -1,7 +1,6 @@
--- A field of a known key, and a window as code holds it.
+-- A field of a known key.
 use Rattle.std.specs.Prelude.{◌≡◌, ◌<◌, ◌≤◌, ℕ, List, Bool, true, Some, Ok}
 use Rattle.obf_wire.specs.declared.field.Field.{Field}
-use Rattle.obf_wire.specs.declared.window.Window.{Window as Held}
 use Rattle.obf_wire.specs.Fields.{Window, field_at, is_among}
 
 -- wherever a field of this key may come, this one is read
@@ -20,7 +19,3 @@ pub record StandsFirst (w : Window) (key : ℕ) (f : Field) : Type 0 where
   pub inside : IsInside w f
   pub key_is : f.key ≡ key
   pub at_is : f.at ≡ w.place
-
--- the part of the bytes that a window of the code is
-abbrev pub range_of : Held → Window
-range_of held = record { bytes = held.bytes.now; place = held.from; end = held.to }

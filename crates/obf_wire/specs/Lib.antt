@@ -3,3 +3,4 @@ pub mod Varint
 pub mod Zigzag
 pub mod Fields
 pub mod KnownKeys
+pub mod Windows

@@ -4,10 +4,12 @@ ghost use Rattle.std.specs.Prelude.{◌≡◌, ◌↔◌, ◌+◌, ◌<◌, ◌�
 ghost use Rattle.obf_wire.specs.declared.field.Field.{Field};
 ghost use Rattle.obf_wire.specs.Varint.{varint_at};
 ghost use Rattle.obf_wire.specs.Fields.{are_keys, is_among, IsNextField, Window, IsWindow, behind, length_at, content_at, filled, keyed, field_at};
+ghost use Rattle.obf_wire.specs.Windows.{range_of};
 
 use crate::breaks::{WireBreak, WireKind};
 use crate::field::Field;
 use crate::varint::read_varint;
+use crate::window::Window;
 use std::marker::Model;
 
 /// A place in a message, and the message's end.
@@ -122,16 +124,14 @@ fn next_at(
 }
 
 impl<'a> Cursor<'a> {
-    /// At `from`, in a message that ends at `to`.
-    pub fn new(bytes: &'a [u8], from: usize, to: usize) -> Cursor<'a>
-        requires ordered { from ≤ to }
-        requires within { to ≤ length bytes.now }
-        ensures { result ≡ record { bytes = bytes.now; place = from; end = to } }
+    /// At the beginning of the message in a window.
+    pub fn new(window: Window<'a>) -> Cursor<'a>
+        ensures { result ≡ range_of window.entry }
     {
         Cursor {
-            bytes,
-            place: from,
-            end: to,
+            bytes: window.bytes,
+            place: window.from,
+            end: window.to,
         }
     }
 

@@ -4,15 +4,27 @@
 //! nothing: the general reader has the answer then.
 
 ghost use Rattle.std.specs.Prelude.{◌≡◌, ◌==◌, ◌<◌, ◌≤◌, ◌%◌, length, false, true, Ok, IfSome};
-ghost use Rattle.obf_wire.specs.Fields.{length_at, payload_len};
+ghost use Rattle.obf_wire.specs.Fields.{length_at, part_of, payload_len};
 ghost use Rattle.obf_wire.specs.Varint.{varint_at};
 ghost use Rattle.obf_wire.specs.KnownKeys.{StandsFirst};
 
 use crate::field::Field;
 use crate::varint::read_varint;
+use crate::window::Window;
 
-/// The number at `at` and the offset after it, where a number stands there before `to`.
-pub fn number(bytes: &[u8], at: usize, to: usize) -> Option<(u64, usize)>
+/// The number at `at` and the offset after it, where a number stands there before the end of the window.
+pub fn number(window: Window<'_>, at: usize) -> Option<(u64, usize)>
+    ensures read { IfSome result (λ r. varint_at window.entry.bytes.now at window.entry.to ≡ Ok r) }
+    ensures inside { IfSome result (λ r. (at < r.1) × (r.1 ≤ window.entry.to)) }
+{
+    if at > window.to {
+        return None;
+    }
+    number_at(window.bytes, at, window.to)
+}
+
+/// The same, of bytes from an offset up to an end.
+fn number_at(bytes: &[u8], at: usize, to: usize) -> Option<(u64, usize)>
     requires ordered { at ≤ to }
     requires within { to ≤ length bytes.now }
     ensures read { IfSome result (λ r. varint_at bytes.now at to ≡ Ok r) }
@@ -82,8 +94,20 @@ fn length_of(key: u8, value: u64) -> u64
     if key % 8 == 0 { 0 } else { value }
 }
 
-/// The field of this key, a number or a payload after its length as a number, where it stands at `at` before `to`.
-pub fn expected(bytes: &[u8], at: usize, to: usize, key: u8) -> Option<Field>
+/// The field of this key, a number or a payload after its length as a number, where it stands at `at` in the window.
+pub fn expected(window: Window<'_>, at: usize, key: u8) -> Option<Field>
+    requires low { key < 128 }
+    requires short { (key % 8 == 6) ≡ false }
+    ensures { IfSome result (StandsFirst (part_of window.entry.bytes.now at window.entry.to) key) }
+{
+    if at > window.to {
+        return None;
+    }
+    plain_at(window.bytes, at, window.to, key)
+}
+
+/// The same, of bytes from an offset up to an end.
+fn plain_at(bytes: &[u8], at: usize, to: usize, key: u8) -> Option<Field>
     requires ordered { at ≤ to }
     requires within { to ≤ length bytes.now }
     requires low { key < 128 }
@@ -93,7 +117,7 @@ pub fn expected(bytes: &[u8], at: usize, to: usize, key: u8) -> Option<Field>
     if at >= to || bytes[at] != key {
         return None;
     }
-    let Some((value, from)) = number(bytes, at + 1, to) else {
+    let Some((value, from)) = number_at(bytes, at + 1, to) else {
         return None;
     };
     let length = length_of(key, value);
@@ -109,8 +133,20 @@ pub fn expected(bytes: &[u8], at: usize, to: usize, key: u8) -> Option<Field>
     })
 }
 
-/// The field of this key, a payload after its length in eight bytes, where it stands at `at` before `to`.
-pub fn expected_wide(bytes: &[u8], at: usize, to: usize, key: u8) -> Option<Field>
+/// The field of this key, a payload after its length in eight bytes, where it stands at `at` in the window.
+pub fn expected_wide(window: Window<'_>, at: usize, key: u8) -> Option<Field>
+    requires low { key < 128 }
+    requires wide { (key % 8 == 6) ≡ true }
+    ensures { IfSome result (StandsFirst (part_of window.entry.bytes.now at window.entry.to) key) }
+{
+    if at > window.to {
+        return None;
+    }
+    wide_at(window.bytes, at, window.to, key)
+}
+
+/// The same, of bytes from an offset up to an end.
+fn wide_at(bytes: &[u8], at: usize, to: usize, key: u8) -> Option<Field>
     requires ordered { at ≤ to }
     requires within { to ≤ length bytes.now }
     requires low { key < 128 }

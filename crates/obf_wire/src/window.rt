@@ -1,14 +1,15 @@
 //! Bytes with a range inside them.
 
 ghost use Rattle.std.specs.Prelude.{◌≡◌, ◌≤◌, ◌-◌, ◌==◌, length, slice_range};
+ghost use Rattle.obf_wire.specs.Fields.{part_of};
 
 /// The bytes from one offset up to another, in their place among all bytes of a file. The range always lies inside the
 /// bytes.
 #[derive(Clone, Copy, Debug, Drop)]
 pub struct Window<'a> {
-    bytes: &'a [u8],
-    from: usize,
-    to: usize,
+    pub(crate) bytes: &'a [u8],
+    pub(crate) from: usize,
+    pub(crate) to: usize,
     ghost ordered: { from ≤ to },
     ghost within: { to ≤ length bytes.now },
 }
@@ -18,7 +19,7 @@ impl<'a> Window<'a> {
     pub fn new(bytes: &'a [u8], from: usize, to: usize) -> Window<'a>
         requires ordered { from ≤ to }
         requires within { to ≤ length bytes.now }
-        ensures bytes { result.bytes.now ≡ bytes.now }
+        ensures range { part_of result.bytes.now result.from result.to ≡ part_of bytes.now from to }
         ensures from { result.from ≡ from }
         ensures to { result.to ≡ to }
     {
@@ -27,7 +28,7 @@ impl<'a> Window<'a> {
 
     /// All of the bytes.
     pub fn whole(bytes: &'a [u8]) -> Window<'a>
-        ensures bytes { result.bytes.now ≡ bytes.now }
+        ensures range { part_of result.bytes.now result.from result.to ≡ part_of bytes.now 0 (length bytes.now) }
         ensures from { result.from ≡ 0 }
         ensures to { result.to ≡ length bytes.now }
     {
@@ -80,10 +81,20 @@ impl<'a> Window<'a> {
     pub fn part(self, from: usize, to: usize) -> Window<'a>
         requires ordered { from ≤ to }
         requires within { to ≤ length self.bytes.now }
-        ensures bytes { result.bytes.now ≡ self.entry.bytes.now }
+        ensures range { part_of result.bytes.now result.from result.to ≡ part_of self.entry.bytes.now from to }
         ensures from { result.from ≡ from }
         ensures to { result.to ≡ to }
     {
         Window::new(self.bytes, from, to)
+    }
+
+    /// The range from an offset on, up to the same end.
+    pub fn after(self, from: usize) -> Window<'a>
+        requires { from ≤ self.to }
+        ensures range { part_of result.bytes.now result.from result.to ≡ part_of self.entry.bytes.now from self.entry.to }
+        ensures from { result.from ≡ from }
+        ensures to { result.to ≡ self.entry.to }
+    {
+        Window::new(self.bytes, from, self.to)
     }
 }

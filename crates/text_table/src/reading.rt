@@ -3,7 +3,7 @@
 ghost use Rattle.std.specs.Prelude.{◌≡◌, ◌≤◌, ℕ, List, [], length, slice_get, slice_range, Some, MatchOption};
 ghost use Rattle.text_table.specs.Tables.{AreTexts, IsTexts, IsFront};
 
-use obf_wire::Cursor;
+use obf_wire::{Cursor, Window};
 use std::marker::Model;
 
 /// The key of the field that a text is: number 1, wire type 2.
@@ -61,7 +61,7 @@ fn first_text(bytes: &[u8]) -> Option<(&str, &[u8])>
     requires { IsTexts bytes.now }
     ensures { (texts : List (List ℕ)) → AreTexts bytes.now texts → MatchOption result (texts ≡ []) (λ found. IsFront texts found.0.now found.1.now) }
 {
-    let mut cursor = Cursor::new(bytes, 0, bytes.len());
+    let mut cursor = Cursor::new(Window::whole(bytes));
     let Ok(found) = cursor.next_field(&[KEY], true) else {
         return None;
     };

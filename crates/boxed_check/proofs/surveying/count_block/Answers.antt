@@ -1,4 +1,5 @@
 use Rattle.std.proofs.Common.{◌≡◌, ◌∙◌, None, Ok, Result, ap, subst, sym}
+use Rattle.obf_wire.specs.Windows.{range_of}
 use Rattle.obf_wire.specs.declared.file.FileBreak.{FileBreak}
 use Rattle.file_grammar.specs.declared.parts.Boxed.{Boxed}
 use Rattle.file_grammar.specs.declared.parts.Part.TheVariants.{Block as BlockPart}
@@ -14,8 +15,8 @@ stands fields = Ok fields
 pub returns-in-Some-clause-count : goal.returns-in-Some-clause-count
 returns-in-Some-clause-count g c fields at block e is_block =
     let m = g.C.CheckClass in
-    let b : IsBlockOf fields = block_of m.class (record { bytes = c.args.bytes.now; place = c.args.from; end = c.args.to }) fields e in
-    let is = c.new-walk.ensures ∙ ap (λ (k : Boxed). record { part = BlockPart k; last = None; window = record { bytes = c.args.bytes.now; place = c.args.from; end = c.args.to } }) c.class.ensures in
+    let b : IsBlockOf fields = block_of m.class (range_of c.args.window) fields e in
+    let is = c.new-walk.ensures ∙ ap (λ (k : Boxed). record { part = BlockPart k; last = None; window = range_of c.args.window }) c.class.ensures in
     let begins : left_in c.new-walk.result ≡ stands fields = subst (λ (w : Standing). left_in w ≡ stands fields) (sym is) e in
     let next = c.in-Some.ensures.fields (has_message b.at 14 b.texts b.records) (begins ∙ ap stands b.is) in
     block_counted fields b at c.count_records.result block (c.count_records.ensures.count b.records next.3 b.are) is_block

@@ -1,5 +1,6 @@
 use Rattle.std.proofs.Common.{◌≡◌, ◌+◌, ◌∙◌, ℕ, List, Option, Some, Ok, sym, ap, subst, arith, length}
 use Rattle.std.specs.Option.{option_map}
+use Rattle.obf_wire.specs.Fields.{Window, part_of}
 use Rattle.file_grammar.specs.declared.parts.Part.TheVariants.{Record}
 use Rattle.file_grammar.specs.Messages.{Fields}
 use Rattle.file_grammar.specs.Readings.{message_at}
@@ -19,9 +20,9 @@ loop-field-preserved g c =
     let holder = box_of c.args.holder.now in
     let told = c.check-checked.result in
     let count : c.with_record-seen.result.count ≡ c.loop-field.seen.count + 1 = ap (λ (s : BlockSeen). s.count) c.with_record-seen.ensures in
-    let see = subst (λ (bytes : List ℕ). (fields : Fields) (block : Block) (prev : Option Entry) → message_at (Record m.class) (record { bytes = bytes; place = f.from; end = f.to }) ≡ Ok fields → length block.texts ≡ c.args.texts → option_map m.key_of prev ≡ c.loop-field.before
+    let see = subst (λ (w : Window). (fields : Fields) (block : Block) (prev : Option Entry) → message_at (Record m.class) w ≡ Ok fields → length block.texts ≡ c.args.texts → option_map m.key_of prev ≡ c.loop-field.before
     → IsRecordChecked m.boxing m.key_of side holder block prev (record { at = f.at; ordinal = c.loop-field.ordinal + step_of fields; fields = fields }) c.loop-field.first c.check-checked.new.first told.ordinal told.key told.in_box)
-    (sym c.loop-field.invariant.same) c.check-checked.ensures.checked in
+    (c.new-payload.ensures.range ∙ ap (λ (bytes : List ℕ). part_of bytes f.from f.to) (sym c.loop-field.invariant.same)) c.check-checked.ensures.checked in
     record {
       records = λ fields e are block texts.
           let r = records_on m.class m.boxing m.key_of side holder block fields c.args.first.now c.loop-field.first c.check-checked.new.first c.loop-field.ordinal told.ordinal c.args.texts c.loop-field.before told.key c.loop-field.seen told.in_box

@@ -1,4 +1,6 @@
-use Rattle.std.proofs.Common.{◌≡◌, ◌∙◌, ℕ, List, Ok, Result, sym, subst, arith}
+use Rattle.std.proofs.Common.{◌≡◌, ◌∙◌, ℕ, List, Ok, Result, ap, sym, subst, arith}
+use Rattle.obf_wire.specs.Fields.{Window, part_of}
+use Rattle.obf_wire.specs.Windows.{range_of}
 use Rattle.obf_wire.specs.declared.file.FileBreak.{FileBreak}
 use Rattle.file_grammar.specs.Messages.{Fields}
 use Rattle.file_grammar.specs.Readings.{message_at}
@@ -26,8 +28,8 @@ check_below-loop-field-preserved-in-Continue-1 t c = record {
 pub check_below-loop-field-preserved-in-Some-part_below : goal.check_below-loop-field-preserved-in-Some-part_below
 check_below-loop-field-preserved-in-Some-part_below t c =
     let f = c.in-Some.field in
-    let node = subst (λ (bytes : List ℕ). (inner : Fields) → message_at c.in-Some-part_below.below (record { bytes = bytes; place = f.from; end = f.to }) ≡ Ok inner
-    → AreNodesChecked inner c.loop-field.first c.check_nodes.new.first c.loop-field.leaves.items c.check_nodes.new.leaves.items c.in_ok-found.found) (sym c.loop-field.invariant.same) c.in_ok-found.ensures in
+    let node = subst (λ (w : Window). (inner : Fields) → message_at c.in-Some-part_below.below w ≡ Ok inner
+    → AreNodesChecked inner c.loop-field.first c.check_nodes.new.first c.loop-field.leaves.items c.check_nodes.new.leaves.items c.in_ok-found.found) (c.new-inner.ensures.range ∙ ap (λ (bytes : List ℕ). part_of bytes f.from f.to) (sym c.loop-field.invariant.same)) c.in_ok-found.ensures in
     record {
       nodes = λ fields e are.
           node_on c.args.at c.args.edges.now fields c.args.first.now c.loop-field.first c.check_nodes.new.first c.args.leaves.now.items c.loop-field.leaves.items c.check_nodes.new.leaves.items c.loop-field.seen c.with_node-seen.result
@@ -52,7 +54,7 @@ check_below-loop-field-preserved t c = record {
 
 pub check_nodes-returns : goal.check_nodes-returns
 check_nodes-returns t c fields e =
-    let shape = tree_shape c.args.part c.requires.part (record { bytes = c.args.bytes.now; place = c.args.from; end = c.args.to }) fields e in
+    let shape = tree_shape c.args.part c.requires.part (range_of c.args.window) fields e in
     let begins : left_in c.new-walk.result ≡ stands fields = subst (λ (w : Standing). left_in w ≡ stands fields) (sym c.new-walk.ensures) e in
     node_asked fields c.in-Some.field (c.next_number-top.result.at, c.next_number-top.result.value) (c.next_number-right.result.at, c.next_number-right.result.value) (c.next_number-bottom.result.at, c.next_number-bottom.result.value)
     c.next.new.self c.next_number-top.new.walk c.next_number-right.new.walk c.next_number-bottom.new.walk c.new-walk.result c.args.first.now c.check_below.new.first c.check_node.new.first c.args.leaves.now.items c.check_below.new.leaves.items c.in_ok-seen.seen

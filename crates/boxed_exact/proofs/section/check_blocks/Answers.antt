@@ -1,4 +1,6 @@
-use Rattle.std.proofs.Common.{◌≡◌, ◌∙◌, ℕ, List, Some, Ok, drop, sym, subst}
+use Rattle.std.proofs.Common.{◌≡◌, ◌∙◌, ℕ, List, Some, Ok, drop, ap, sym, subst}
+use Rattle.obf_wire.specs.Fields.{Window, part_of}
+use Rattle.obf_wire.specs.Windows.{range_of}
 use Rattle.file_grammar.specs.declared.parts.Part.TheVariants.{Block as BlockPart}
 use Rattle.file_grammar.specs.Messages.{Fields}
 use Rattle.file_grammar.specs.Readings.{message_at}
@@ -21,10 +23,10 @@ loop-field-preserved g c =
     let m = g.C.CheckClass in
     let f = c.in-Some.field in
     let around = beside c.args.around.now in
-    let placed = subst (λ (place : ℕ). (fields : Fields) → message_at (BlockPart m.class) (record { bytes = c.args.bytes.now; place = f.from; end = f.to }) ≡ Ok fields
+    let placed = subst (λ (place : ℕ). (fields : Fields) → message_at (BlockPart m.class) (range_of c.new-block.result) ≡ Ok fields
     → IsPairChecked m.boxing around f.at place c.loop-field.rest.now fields c.loop-field.first c.check_paired.new.first) c.first_of-place.ensures c.check_paired.ensures in
-    let pair = subst (λ (bytes : List ℕ). (fields : Fields) → message_at (BlockPart m.class) (record { bytes = bytes; place = f.from; end = f.to }) ≡ Ok fields
-    → IsPairChecked m.boxing around f.at (place_or c.loop-field.start f.at) c.loop-field.rest.now fields c.loop-field.first c.check_paired.new.first) (sym c.loop-field.invariant.same) placed in
+    let pair = subst (λ (w : Window). (fields : Fields) → message_at (BlockPart m.class) w ≡ Ok fields
+    → IsPairChecked m.boxing around f.at (place_or c.loop-field.start f.at) c.loop-field.rest.now fields c.loop-field.first c.check_paired.new.first) (c.new-block.ensures.range ∙ ap (λ (bytes : List ℕ). part_of bytes f.from f.to) (sym c.loop-field.invariant.same)) placed in
     record {
       blocks = λ fields e are.
           let r = block_on m.class m.boxing around fields c.args.first.now c.loop-field.first c.check_paired.new.first c.args.leaves.now c.loop-field.rest.now c.loop-field.start c.loop-field.walk c.next.new.self f

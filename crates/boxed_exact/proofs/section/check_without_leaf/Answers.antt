@@ -6,4 +6,4 @@ pub returns : goal.returns
 returns g c fields e =
     let m = g.C.CheckClass in
     let b = c.check_block.ensures fields e in
-    without_leaf m.class m.boxing (beside c.args.around.now) c.args.span.at fields c.args.first.now c.check_block.new.first c.ask.new.self b.block b.is (block_at m.class m.boxing c.args.span.at fields b.block b.is) b.asked c.ask.ensures
+    without_leaf m.class m.boxing (beside c.args.around.now) c.args.at fields c.args.first.now c.check_block.new.first c.ask.new.self b.block b.is (block_at m.class m.boxing c.args.at fields b.block b.is) b.asked c.ask.ensures

@@ -1,13 +1,15 @@
-use Rattle.std.proofs.Common.{arith}
-use Rattle.obf_wire.specs.Fields.{Window}
+use Rattle.std.proofs.Common.{ℕ, subst, arith}
+use Rattle.obf_wire.specs.Fields.{Window, part_of}
+use Rattle.obf_wire.specs.KnownKeys.{StandsFirst}
+use Rattle.obf_wire.specs.Windows.{range_of}
 use Rattle.map_section.proofs.MapRead.{read_is}
 use Rattle.map_section.proofs.checking.read_fields.Goals as goal
 
 pub returns-clause-read : goal.returns-clause-read
 returns-clause-read c =
-    let w : Window = record { bytes = c.args.bytes.now; place = c.args.from; end = c.args.to } in
-    read_is w c.in-Some.step c.in-Some-expected.rule c.in-Some-expected-2.shape c.in-Some-expected-3.name c.in-Some-expected-4.points (record { ordered = c.requires.ordered; within = c.requires.within })
-    c.in-Some.ensures
+    let w : Window = range_of c.args.window in
+    read_is w c.in-Some.step c.in-Some-expected.rule c.in-Some-expected-2.shape c.in-Some-expected-3.name c.in-Some-expected-4.points (record { ordered = c.args.window.ordered; within = c.args.window.within })
+    (subst (λ (at : ℕ). StandsFirst (part_of c.args.window.bytes.now at c.args.window.to) 8 c.in-Some.step) c.from.ensures c.in-Some.ensures)
     c.in-Some-expected.ensures
     c.in-Some-expected-2.ensures
     c.in-Some-expected-3.ensures

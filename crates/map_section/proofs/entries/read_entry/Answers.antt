@@ -1,4 +1,5 @@
 use Rattle.std.proofs.Common.{◌≡◌, ℕ, List, Ok, Result, sym, ap, subst, ◌∙◌}
+use Rattle.obf_wire.specs.Windows.{range_of}
 use Rattle.file_grammar.specs.declared.parts.Boxed.TheVariants.{Map}
 use Rattle.file_grammar.specs.declared.parts.Part.TheVariants.{Record}
 use Rattle.file_grammar.specs.MapRules.{map_fields}
@@ -18,14 +19,14 @@ stands fields = Ok fields
 
 pub returns-clause-read : goal.returns-clause-read
 returns-clause-read c fields e =
-    let s : IsMapRecord fields = map_record fields (shaped (Record Map) (record { bytes = c.args.bytes.now; place = c.args.from; end = c.args.to }) fields e) in
+    let s : IsMapRecord fields = map_record fields (shaped (Record Map) (range_of c.args.window) fields e) in
     let begins : left_in c.new-walk.result ≡ stands fields = subst (λ (w : Standing). left_in w ≡ stands fields) (sym c.new-walk.ensures) e in
     let one = c.next_number-step.ensures.number s.a 8 s.step (has_number s.b 16 s.rule (has_number s.c 24 s.shape (has_number s.d 32 s.name (has_numbers s.e 42 s.points s.rest)))) (begins ∙ ap stands s.is) in
     let two = c.next_number-rule.ensures.number s.b 16 s.rule (has_number s.c 24 s.shape (has_number s.d 32 s.name (has_numbers s.e 42 s.points s.rest))) one.2 in
     let three = c.next_number-shape.ensures.number s.c 24 s.shape (has_number s.d 32 s.name (has_numbers s.e 42 s.points s.rest)) two.2 in
     let four = c.next_number-name.ensures.number s.d 32 s.name (has_numbers s.e 42 s.points s.rest) three.2 in
     let five = c.next_payload-points.ensures.numbers s.e 42 s.points s.rest four.2 in
-    let same : c.next_number-name.new.walk.window.bytes ≡ c.args.bytes.now =
+    let same : c.next_number-name.new.walk.window.bytes ≡ c.args.window.bytes.now =
     c.next_number-name.ensures.same ∙ c.next_number-shape.ensures.same ∙ c.next_number-rule.ensures.same ∙ c.next_number-step.ensures.same
     ∙ ap (λ (w : Standing). w.window.bytes) c.new-walk.ensures in
     let read : EntryFields = record {
@@ -35,7 +36,7 @@ returns-clause-read c fields e =
       name = c.next_number-name.result;
       points = c.next_payload-points.result;
     } in
-    subst (λ (fields : Fields). IsRead c.args.bytes.now read (map_fields fields)) (sym s.is)
+    subst (λ (fields : Fields). IsRead c.args.window.bytes.now read (map_fields fields)) (sym s.is)
     (record {
       step = (one.0, one.1);
       rule = (two.0, two.1);
@@ -47,7 +48,7 @@ returns-clause-read c fields e =
 
 pub returns-clause-step : goal.returns-clause-step
 returns-clause-step c fields e =
-    let s : IsMapRecord fields = map_record fields (shaped (Record Map) (record { bytes = c.args.bytes.now; place = c.args.from; end = c.args.to }) fields e) in
+    let s : IsMapRecord fields = map_record fields (shaped (Record Map) (range_of c.args.window) fields e) in
     let begins : left_in c.new-walk.result ≡ stands fields = subst (λ (w : Standing). left_in w ≡ stands fields) (sym c.new-walk.ensures) e in
     let one = c.next_number-step.ensures.number s.a 8 s.step (has_number s.b 16 s.rule (has_number s.c 24 s.shape (has_number s.d 32 s.name (has_numbers s.e 42 s.points s.rest)))) (begins ∙ ap stands s.is) in
     one.1 ∙ ap step_of (sym s.is)

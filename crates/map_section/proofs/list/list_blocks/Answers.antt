@@ -1,4 +1,5 @@
-use Rattle.std.proofs.Common.{◌≡◌, ◌∙◌, ◌++◌, ℕ, List, Ok, sym, subst}
+use Rattle.std.proofs.Common.{◌≡◌, ◌∙◌, ◌++◌, ℕ, List, Ok, ap, sym, subst}
+use Rattle.obf_wire.specs.Fields.{Window, part_of}
 use Rattle.file_grammar.specs.declared.parts.Boxed.TheVariants.{Map}
 use Rattle.file_grammar.specs.declared.parts.Part.TheVariants.{Block as BlockPart}
 use Rattle.file_grammar.specs.Messages.{Fields}
@@ -11,8 +12,8 @@ use Rattle.map_section.proofs.list.list_blocks.Goals as goal
 pub loop-field-preserved : goal.loop-field-preserved
 loop-field-preserved c =
     let f = c.in-Some.field in
-    let more = subst (λ (bytes : List ℕ). (fields : Fields) → message_at (BlockPart Map) (record { bytes = bytes; place = f.from; end = f.to }) ≡ Ok fields
-    → c.list_block.new.records.items ≡ c.loop-field.records.items ++ block_records fields) (sym c.loop-field.invariant.same) c.in_ok-list_block.ensures in
+    let more = subst (λ (w : Window). (fields : Fields) → message_at (BlockPart Map) w ≡ Ok fields
+    → c.list_block.new.records.items ≡ c.loop-field.records.items ++ block_records fields) (c.new.ensures.range ∙ ap (λ (bytes : List ℕ). part_of bytes f.from f.to) (sym c.loop-field.invariant.same)) c.in_ok-list_block.ensures in
     record {
       blocks = λ fields e are.
           blocks_on fields c.loop-field.records.items c.list_block.new.records.items c.loop-field.walk c.next.new.self f (c.loop-field.invariant.blocks fields e are) c.in-Some.ensures.fields
@@ -23,8 +24,8 @@ loop-field-preserved c =
       sound = (next_block c.loop-field.walk c.next.new.self f c.loop-field.invariant.part c.loop-field.invariant.sound c.in-Some.ensures.fields).1;
     }
 
-pub list_block-requires-clause-sound : goal.list_block-requires-clause-sound
-list_block-requires-clause-sound c =
+pub list_block-requires : goal.list_block-requires
+list_block-requires c =
     let f = c.in-Some.field in
-    subst (λ (bytes : List ℕ). HoldsBlock (record { bytes = bytes; place = f.from; end = f.to })) c.loop-field.invariant.same
+    subst HoldsBlock (ap (λ (bytes : List ℕ). part_of bytes f.from f.to) c.loop-field.invariant.same ∙ sym c.new.ensures.range)
     (next_block c.loop-field.walk c.next.new.self f c.loop-field.invariant.part c.loop-field.invariant.sound c.in-Some.ensures.fields).0

@@ -3,15 +3,16 @@ use Rattle.file_grammar.specs.declared.parts.Part.TheVariants.{Texts}
 use Rattle.file_grammar.specs.Messages.{Fields}
 use Rattle.file_grammar.specs.Readings.{message_at}
 use Rattle.obf_wire.specs.Fields.{IsWindow}
+use Rattle.obf_wire.specs.Windows.{range_of}
 use Rattle.map_section.proofs.ListWalk.{TextsRead}
 use Rattle.map_section.proofs.SoundWalk.{LeavesTexts}
 use Rattle.map_section.proofs.list.read_texts.Given as goal
 
 abbrev pub invariant-loop-field : goal.invariant-loop-field
 invariant-loop-field l = record {
-  texts : (fields : Fields) → message_at Texts (record { bytes = l.bytes; place = l.from; end = l.to }) ≡ Ok fields → TextsRead fields l.texts.items l.walk;
+  texts : (fields : Fields) → message_at Texts (range_of l.window) ≡ Ok fields → TextsRead fields l.texts.items l.walk;
   window : IsWindow l.walk.window;
-  same : l.walk.window.bytes ≡ l.bytes;
+  same : l.walk.window.bytes ≡ l.window.bytes.now;
   sound : LeavesTexts l.walk;
 }
 

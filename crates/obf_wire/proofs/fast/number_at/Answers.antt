@@ -1,7 +1,7 @@
 use Rattle.std.proofs.Common.{arith, ◌+◌}
 use Rattle.obf_wire.proofs.Places.{one_byte_at}
 use Rattle.obf_wire.proofs.KnownKeys.{two_bytes_at, three_bytes_at, four_bytes_at}
-use Rattle.obf_wire.proofs.fast.number.Goals as goal
+use Rattle.obf_wire.proofs.fast.number_at.Goals as goal
 
 pub returns-then-first-lt128-clause-read : goal.returns-then-first-lt128-clause-read
 returns-then-first-lt128-clause-read c =

@@ -1,6 +1,6 @@
 use Rattle.std.proofs.Common.{◌≡◌, arith, get_or}
 use Rattle.obf_wire.proofs.KnownKeys.{expected_is}
-use Rattle.obf_wire.proofs.fast.expected.Goals as goal
+use Rattle.obf_wire.proofs.fast.plain_at.Goals as goal
 
 pub returns : goal.returns
 returns c =

@@ -1,6 +1,6 @@
 use Rattle.std.proofs.Common.{◌≡◌, arith, get_or}
 use Rattle.obf_wire.proofs.KnownKeys.{wide_is}
-use Rattle.obf_wire.proofs.fast.expected_wide.Goals as goal
+use Rattle.obf_wire.proofs.fast.wide_at.Goals as goal
 
 pub returns : goal.returns
 returns c =
