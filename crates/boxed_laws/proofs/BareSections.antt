@@ -4,7 +4,7 @@ use Rattle.std.specs.Prelude.{flat_map, nat_le, IsUtf8}
 use Rattle.std.specs.List.{AllByRecursion, list_all, Contains}
 use Rattle.std.specs.Int.{w64, to_be_bytes}
 use Rattle.std.proofs.lemmas.Bool.{and_from, le-leb, eq-eqb}
-use Rattle.std.proofs.lemmas.List.{length-map, length-append}
+use Rattle.std.proofs.lemmas.List.{length-append}
 use Rattle.std.proofs.lemmas.List.Sorted.{length_permutation}
 use Rattle.std.proofs.lemmas.List.Elements.{Contains-append_right}
 use Rattle.live_model.specs.declared.points.Rect.{Rect}
@@ -17,7 +17,7 @@ use Rattle.box_tree.specs.Trees.{around}
 use Rattle.file_grammar.specs.declared.parts.Part.TheVariants.{Boxes, Tree}
 use Rattle.file_grammar.specs.Messages.{inside, beyond}
 use Rattle.file_grammar.specs.Facts.{AllHold}
-use Rattle.file_grammar.specs.Sections.{Placed, Block, Leaf, texts_in, messages_in, entries_from, blocks_in, nodes_in, leaves_in, section_in}
+use Rattle.file_grammar.specs.Sections.{Block, Leaf, texts_in, messages_in, entries_from, blocks_in, nodes_in, leaves_in, section_in}
 use Rattle.file_grammar.specs.BoxRules.{holds_place, leaf_facts, paired_facts, first_place, points_in, block_facts, node_facts, section_facts}
 use Rattle.boxed_write.specs.Classes.{IsPackedBy, IsNamedIn}
 use Rattle.boxed_write.specs.Packed.{block, blocks_of, leaf, leaves_from, tree, texts_of, packing_cmp, sorted_by, cuts, packed}
@@ -162,9 +162,6 @@ module _ {A : Type 0} (c : BoxedClass A) (suits : List Rule → A → Type 0) (l
   abbrev the_blocks : ℕ → List (List A) → List Block
   the_blocks at bs = blocks_in (messages_in (stood at (bare_blocks c bs)))
 
-  same_texts : (at : ℕ) (b : List A) → length (the_block at b).texts ≡ length (texts_of c.packing b)
-  same_texts at b = sym (length-map (the_block at b).texts (λ (t : Placed (List ℕ)). t.value)) ∙ ap length (texts_again (texts_of c.packing b) (texts_at at b))
-
   module _ (rules : List Rule) where
     block_holds : (at : ℕ) (b : List A) → IsPackedBlock rules b → AllHold (block_facts c.boxing (without_marks rules) (the_block at b))
     block_holds at b p =
@@ -173,7 +170,7 @@ module _ {A : Type 0} (c : BoxedClass A) (suits : List Rule → A → Type 0) (l
         let n : ℕ = length (the_block at b).entries in (
           and_from (nat_le 1 n) (nat_le n 64) (le-leb 1 n (omega (arith, p.some))) (le-leb n 64 (omega (arith, p.few))),
           all_join (λ f. f.holds ≡ true) _ _ (texts_hold (texts_at at b) texts (texts_rising c.packing b) (texts_good c.packing b (all_utf8 rules b p.suit)))
-              (records_hold c suits laws rules texts (the_block at b) (same_texts at b) b (records_at at b) p.up (block_stands rules b p)),
+              (records_hold c suits laws rules texts (the_block at b) (texts_again (texts_of c.packing b) (texts_at at b)) b (records_at at b) p.up (block_stands rules b p)),
         )
 
     blocks_hold : (bs : List (List A)) (at : ℕ) → AllByRecursion (IsPackedBlock rules) bs → AllHold (flat_map (block_facts c.boxing (without_marks rules)) (the_blocks at bs))

@@ -34,26 +34,26 @@ module _ {A : Type 0} (c : BoxedClass A) (suits : List Rule → A → Type 0) (l
   after_least r (x ∷ xs) all = (laws.first r x all.0, after_least r xs all.1)
 
   module _ (rules : List Rule) (texts : List (List ℕ)) (block : Block) where
-    behind_hold : length block.texts ≡ length texts → (rs : List A) (p number from sum at : ℕ) (a : A) → number ≡ c.packing.ordinal a → sum ≡ c.packing.ordinal a → AreUp c.packing.cmp (a ∷ rs) → AllByRecursion (StandsIn c suits rules texts) rs
+    behind_hold : map (λ (t : Placed (List ℕ)). t.value) block.texts ≡ texts → (rs : List A) (p number from sum at : ℕ) (a : A) → number ≡ c.packing.ordinal a → sum ≡ c.packing.ordinal a → AreUp c.packing.cmp (a ∷ rs) → AllByRecursion (StandsIn c suits rules texts) rs
         → AllHold (flat_map (c.boxing.facts (without_marks rules) block) (with_before (Some (entry_of c texts p number from a)) (entries texts sum (c.packing.ordinal a) at rs)))
-    behind_hold few [] p number from sum at a is e up stands = tt
-    behind_hold few (r ∷ rs) p number from sum at a is e up stands =
+    behind_hold same [] p number from sum at a is e up stands = tt
+    behind_hold same (r ∷ rs) p number from sum at a is e up stands =
         let own : ℕ = sum + (c.packing.ordinal r - c.packing.ordinal a) in
         let reached : own ≡ c.packing.ordinal r = step_to sum (c.packing.ordinal a) (c.packing.ordinal r) e (laws.first a r up.0.0) in
         let before : ComesBefore c texts r (entry_of c texts p number from a) = record { other = a; at = p; before = from; ordinal = number; is = refl; ordinal_is = is; up = up.0.0 } in
         all_join (λ f. f.holds ≡ true) (c.boxing.facts (without_marks rules) block (Some (entry_of c texts p number from a), entry_of c texts at own (c.packing.ordinal a) r)) _
-        (laws.good rules texts block (Some (entry_of c texts p number from a)) at own (c.packing.ordinal a) r few reached stands.0 before)
-        (behind_hold few rs at own (c.packing.ordinal a) own (behind_at texts at (c.packing.ordinal a) r) r reached reached up.1 stands.1)
+        (laws.good rules texts block (Some (entry_of c texts p number from a)) at own (c.packing.ordinal a) r same reached stands.0 before)
+        (behind_hold same rs at own (c.packing.ordinal a) own (behind_at texts at (c.packing.ordinal a) r) r reached reached up.1 stands.1)
 
-    pub records_hold : length block.texts ≡ length texts → (rs : List A) (at : ℕ) → AreUp c.packing.cmp rs → AllByRecursion (StandsIn c suits rules texts) rs
+    pub records_hold : map (λ (t : Placed (List ℕ)). t.value) block.texts ≡ texts → (rs : List A) (at : ℕ) → AreUp c.packing.cmp rs → AllByRecursion (StandsIn c suits rules texts) rs
         → AllHold (flat_map (c.boxing.facts (without_marks rules) block) (with_before None (entries texts 0 0 at rs)))
-    records_hold few [] at up stands = tt
-    records_hold few (r ∷ rs) at up stands =
+    records_hold same [] at up stands = tt
+    records_hold same (r ∷ rs) at up stands =
         let own : ℕ = 0 + (c.packing.ordinal r - 0) in
         let reached : own ≡ c.packing.ordinal r = step_to 0 0 (c.packing.ordinal r) refl (omega arith) in
         all_join (λ f. f.holds ≡ true) (c.boxing.facts (without_marks rules) block (None, entry_of c texts at own 0 r)) _
-        (laws.good rules texts block None at own 0 r few reached stands.0 tt)
-        (behind_hold few rs at own 0 own (behind_at texts at 0 r) r reached reached up stands.1)
+        (laws.good rules texts block None at own 0 r same reached stands.0 tt)
+        (behind_hold same rs at own 0 own (behind_at texts at 0 r) r reached reached up stands.1)
 
     pub records_again : map (λ (t : Placed (List ℕ)). t.value) block.texts ≡ texts → (rs : List A) (sum before at : ℕ) → sum ≡ before → AllByRecursion (λ r. before ≤ c.packing.ordinal r) rs → AreUp c.packing.cmp rs → AllByRecursion (StandsIn c suits rules texts) rs
         → map (c.reads block) (entries texts sum before at rs) ≡ rs

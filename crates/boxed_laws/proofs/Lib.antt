@@ -10,3 +10,4 @@ pub mod BareLevels
 pub mod BareSections
 pub mod PackedReadings
 pub mod FittingRecords
+pub mod RecordParts

@@ -87,7 +87,7 @@ pub record IsLawful {A : Type 0} (c : BoxedClass A) (suits : List Rule → A →
   pub spelled : (texts : List (List ℕ)) (r : A) → bytes_of (c.bare texts r) ≡ c.packing.fields texts r
   pub formed : (rules : List Rule) (texts : List (List ℕ)) (r : A) → length rules < 2 ^ 64 → length texts < 2 ^ 64 → StandsIn c suits rules texts r → AreFormed (Record c.class) (Some 8) (c.bare texts r)
   -- no rule fails, its points are in each box that contains its own, and it is read again
-  pub good : (rules : List Rule) (texts : List (List ℕ)) (block : Block) (prev : Option Entry) (at ordinal before : ℕ) (r : A) → length block.texts ≡ length texts → ordinal ≡ c.packing.ordinal r → StandsIn c suits rules texts r → Precedes c texts r prev
+  pub good : (rules : List Rule) (texts : List (List ℕ)) (block : Block) (prev : Option Entry) (at ordinal before : ℕ) (r : A) → map (λ t. t.value) block.texts ≡ texts → ordinal ≡ c.packing.ordinal r → StandsIn c suits rules texts r → Precedes c texts r prev
       → AllHold (c.boxing.facts (without_marks rules) block (prev, entry_of c texts at ordinal before r))
   pub contained : (texts : List (List ℕ)) (at ordinal before : ℕ) (r : A) (box : Rect) → Holds box (c.packing.box r) → list_all (holds_place box) (c.boxing.points (entry_of c texts at ordinal before r)) ≡ true
   pub again : (rules : List Rule) (texts : List (List ℕ)) (block : Block) (at ordinal before : ℕ) (r : A) → map (λ t. t.value) block.texts ≡ texts → ordinal ≡ c.packing.ordinal r → StandsIn c suits rules texts r

@@ -1,14 +1,13 @@
 -- Map records as a class that keeps the laws of sections: what it shows of one record.
-use Rattle.std.proofs.Common.{◌≡◌, ℕ, zero, suc, ◌/◌, ◌^◌, ◌<◌, ◌≤◌, true, false, List, [], ◌∷◌, ◌++◌, length, map, Option, Some, None, refl, sym, ap, subst, ◌∙◌, arith, append_assoc}
-use Rattle.std.specs.Prelude.{flat_map, nat_lt, nat_le, ◌==◌, ◌&&◌, ◌||◌, not, slice_get, unwrap_or, pos, negsuc, ℤ, int_le, unsigned_abs, IsUtf8}
+use Rattle.std.proofs.Common.{◌≡◌, ℕ, ◌/◌, ◌^◌, ◌<◌, ◌≤◌, true, false, List, [], ◌∷◌, ◌++◌, length, map, Option, Some, None, refl, sym, ap, subst, ◌∙◌, arith, append_assoc}
+use Rattle.std.specs.Prelude.{flat_map, nat_lt, nat_le, ◌==◌, ◌&&◌, ◌||◌, not, slice_get}
 use Rattle.std.specs.List.{AllByRecursion, list_all}
-use Rattle.std.specs.Option.{option_map, option_map_or}
+use Rattle.std.specs.Option.{option_map_or}
 use Rattle.std.specs.Ordering.{nat_cmp, ordering_then, is_gt}
 use Rattle.std.specs.declared.cmp.Ordering.{Ordering}
 use Rattle.std.proofs.lemmas.Bool.{and_from, and_parts, or_left, le-leb, eq-eqb, eqb-true, leb-true}
 use Rattle.std.proofs.lemmas.Bool.Decides.{nat_tests}
 use Rattle.std.proofs.lemmas.List.{append-nil, length-map}
-use Rattle.std.proofs.lemmas.Str.{IsUtf8-from_is_utf8, IsUtf8-nil}
 use Rattle.live_model.specs.declared.ids.Kind.{Kind}
 use Rattle.live_model.specs.declared.points.Point.{Point}
 use Rattle.live_model.specs.declared.points.Rect.{Rect}
@@ -18,7 +17,7 @@ use Rattle.live_model.specs.declared.classes.Class.{Class}
 use Rattle.live_model.specs.declared.classes.Class.TheVariants.{Map as MapClass, Poi as PoiClass, Road as RoadClass, Place as PlaceClass}
 use Rattle.live_model.specs.declared.rules.Rule.{Rule}
 use Rattle.live_model.specs.declared.records.MapRec.{MapRec}
-use Rattle.live_model.specs.Ids.{Id, IsId, ordinal, rank}
+use Rattle.live_model.specs.Ids.{Id, ordinal, rank}
 use Rattle.live_model.specs.Points.{IsInGrid}
 use Rattle.live_model.specs.Rules.{shape_rank}
 use Rattle.live_model.specs.Records.{map_cmp, is_map, drawing_cmp}
@@ -37,8 +36,9 @@ use Rattle.file_grammar.specs.MapRules.{MapFields, map_fields, entries_rise, is_
 use Rattle.boxed_write.specs.Packed.{text_number}
 use Rattle.boxed_laws.specs.Bare.{Bare, no_more, a_number, some_numbers, bytes_of, AreFormed}
 use Rattle.boxed_laws.specs.Classes.{BoxedClass, IsBox, StandsIn, Precedes, IsLawful, PassUtf8, without_marks, entry_of}
-use Rattle.boxed_laws.proofs.BoxesAround.{HoldsPoint, points_of, no_points, grid_of, grid_test, points_inside, test_map}
-use Rattle.boxed_laws.proofs.ObjectNumbers.{least_rank, ordinal_is, kind_of_ordinal, object_again, object_good}
+use Rattle.boxed_laws.proofs.BoxesAround.{HoldsPoint, points_of, no_points, grid_of, points_inside, test_map}
+use Rattle.boxed_laws.proofs.ObjectNumbers.{ordinal_is, kind_of_ordinal, object_again, object_good}
+use Rattle.boxed_laws.proofs.RecordParts.{found_below, grid_tests, name_utf8, points_again, points_in_grid, small_ordinal}
 use Rattle.map_section.specs.Packed.{drawn_box, map_packing, map_fields as packed_fields}
 
 -- ---- the class
@@ -68,21 +68,10 @@ spelled texts m =
     four (number_field 2 m.rule) (number_field 3 (shape_rank m.shape)) (number_field 4 (text_number texts m.name)) (field_spelling 42 (length ns) ns) (short_field 5 (point_list m.points))
     (ap (λ (payload : List ℕ). field_spelling 42 (length payload) payload) (sym (points_are_numbers origin m.points)))
 
-small_ordinal : (o : Id) → IsId o → ordinal o < 2 ^ 64
-small_ordinal o good = let kind = kind_of_ordinal o good in let least = (least_rank o.kind).0 in small (ordinal o) (rank o.kind) kind least
-  where
-    small : (n r : ℕ) → n / 2 ^ 50 ≡ r → r ≤ 2 → n < 2 ^ 64
-    small n r e le = omega arith
-
 small_shape : (shape : Shape) → shape_rank shape < 2 ^ 64
 small_shape PointShape = omega arith
 small_shape LineShape = omega arith
 small_shape AreaShape = omega arith
-
-found_below : (rules : List Rule) (k : ℕ) (rule : Rule) → slice_get rules k ≡ Some rule → k < length rules
-found_below [] k rule e = absurd (cc)
-found_below (r ∷ rs) zero rule e = omega arith
-found_below (r ∷ rs) (suc k) rule e = let rest = found_below rs k rule e in omega arith
 
 formed : (rules : List Rule) (texts : List (List ℕ)) (m : MapRec) → length rules < 2 ^ 64 → length texts < 2 ^ 64 → StandsIn map_class FitsMap rules texts m → AreFormed (Record Map) (Some 8) (map_bare texts m)
 formed rules texts m few short s =
@@ -126,19 +115,11 @@ numbers_of m = numbers_from origin m.points
 places_are : (m : MapRec) → places (numbers_of m) ≡ map place_of m.points
 places_are m = numbers_lead origin m.points
 
-grid_tests : (ps : List Point) → AllByRecursion IsInGrid ps → AllByRecursion (λ p. is_on_grid (place_of p) ≡ true) ps
-grid_tests [] all = tt
-grid_tests (p ∷ ps) all = (grid_test p all.0, grid_tests ps all.1)
-
 points_hold : (rules : List Rule) (m : MapRec) → FitsMap rules m → (list_all is_on_grid (places (numbers_of m)) && is_count_for (shape_rank m.shape) (length (places (numbers_of m)))) ≡ true
 points_hold rules m f =
     ap (λ (ps : List Place). list_all is_on_grid ps && is_count_for (shape_rank m.shape) (length ps)) (places_are m)
     ∙ and_from (list_all is_on_grid (map place_of m.points)) (is_count_for (shape_rank m.shape) (length (map place_of m.points))) (test_map place_of is_on_grid m.points (grid_tests m.points f.grid))
     (ap (is_count_for (shape_rank m.shape)) (length-map m.points place_of) ∙ count_is m.shape (length m.points) f.count)
-
-points_again : (ps : List Point) → map point_from (map place_of ps) ≡ ps
-points_again [] = refl
-points_again (p ∷ ps) = ap (λ (qs : List Point). p ∷ qs) (points_again ps)
 
 up_rises : (i j p q : ℕ) (s : Ordering) → is_gt (ordering_then (nat_cmp i j) (ordering_then (nat_cmp p q) s)) ≡ false → (nat_lt i j || ((i == j) && nat_le p q)) ≡ true
 up_rises i j p q s up = grind (arith, nat_tests)
@@ -164,10 +145,11 @@ rises_after texts None at number before m is p = refl
 rises_after texts (Some e) at number before m is p =
     subst (λ (x : Entry). entries_rise x (the_entry texts at number before m) ≡ true) (sym p.is) (rises_to texts p.at p.ordinal p.before at number before p.other m p.ordinal_is is p.up)
 
-good : (rules : List Rule) (texts : List (List ℕ)) (block : Block) (prev : Option Entry) (at number before : ℕ) (m : MapRec) → length block.texts ≡ length texts → number ≡ ordinal m.id → StandsIn map_class FitsMap rules texts m → Precedes map_class texts m prev
+good : (rules : List Rule) (texts : List (List ℕ)) (block : Block) (prev : Option Entry) (at number before : ℕ) (m : MapRec) → map (λ (t : Placed (List ℕ)). t.value) block.texts ≡ texts → number ≡ ordinal m.id → StandsIn map_class FitsMap rules texts m → Precedes map_class texts m prev
     → AllHold (map_facts (without_marks rules) block (prev, the_entry texts at number before m))
-good rules texts block prev at number before m few is s p =
+good rules texts block prev at number before m same is s p =
     let f = s.suits_rules in
+    let few : length block.texts ≡ length texts = sym (length-map block.texts (λ (t : Placed (List ℕ)). t.value)) ∙ ap length same in
     let object : (is_ordinal number && is_drawn_of (shape_rank m.shape) number) ≡ true =
     ap (λ (n : ℕ). is_ordinal n && is_drawn_of (shape_rank m.shape) n) is
     ∙ and_from (is_ordinal (ordinal m.id)) (is_drawn_of (shape_rank m.shape) (ordinal m.id)) (ordinal_is m.id f.id)
@@ -235,32 +217,6 @@ count_of : (shape : Shape) (count : ℕ) → is_count_for (shape_rank shape) cou
 count_of PointShape count e = eqb-true count 1 e
 count_of LineShape count e = leb-true 2 count e
 count_of AreaShape count e = leb-true 2 count e
-
--- ---- names
-
-text_utf8 : (texts : List (Placed (List ℕ))) (k : ℕ) → PassUtf8 texts → IsUtf8 (unwrap_or (option_map (λ t. t.value) (slice_get texts k)) [])
-text_utf8 [] k all = IsUtf8-nil
-text_utf8 (t ∷ ts) zero all = IsUtf8-from_is_utf8 t.value all.0
-text_utf8 (t ∷ ts) (suc k) all = text_utf8 ts k all.1
-
-name_utf8 : (texts : List (Placed (List ℕ))) (n : ℕ) → PassUtf8 texts → IsUtf8 (text_of texts n)
-name_utf8 texts zero all = IsUtf8-nil
-name_utf8 texts (suc k) all = text_utf8 texts k all
-
-edge_of : (most : ℕ) (z : ℤ) → (int_le (pos 0) z && int_le z (pos most)) ≡ true → unsigned_abs z ≤ most
-edge_of most (pos n) e = leb-true n most (and_parts (int_le (pos 0) (pos n)) (int_le (pos n) (pos most)) e).1
-edge_of most (negsuc n) e = absurd (cc)
-
-point_in_grid : (p : Place) → is_on_grid p ≡ true → IsInGrid (point_from p)
-point_in_grid (x, y) e =
-    let parts = and_parts (int_le (pos 0) x && int_le x (pos 3600000000)) (int_le (pos 0) y && int_le y (pos 1800000000)) e in
-    (edge_of 3600000000 x parts.0, edge_of 1800000000 y parts.1)
-
-points_in_grid : (ps : List Place) → list_all is_on_grid ps ≡ true → AllByRecursion IsInGrid (map point_from ps)
-points_in_grid [] e = tt
-points_in_grid (p ∷ ps) e =
-    let parts = and_parts (is_on_grid p) (list_all is_on_grid ps) e in
-    (point_in_grid p parts.0, points_in_grid ps parts.1)
 
 one_fits : (beside : Beside) (block : Block) (prev : Option Entry) (entry : Entry) (f : MapFields) → PassUtf8 block.texts → AllHold (map_facts_of beside block (prev, entry) f) → FitsMap beside.rules (map_record_of block entry f)
 one_fits beside block prev entry f utf8 all =
