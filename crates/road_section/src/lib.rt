@@ -1,0 +1,19 @@
+//! The section of roads and turn restrictions in a file: two sections of boxed records, one after the other.
+//!
+//! The one idea: a road keeps the numbers of its nodes beside their locations, so that roads which meet in a node are known
+//! to meet. Both stand in a list as steps from the node before. A restriction names the way that is left, the node and the
+//! way that is entered by their numbers. `specs/Roads.antt` and `specs/Restrictions.antt` say which bytes are written; what has to hold
+//! of them, and which records they are, is said by the definitions of `file_grammar`.
+#![tactic(auto)]
+
+mod ban_class;
+mod laws;
+mod nodes;
+mod road_class;
+
+pub use ban_class::BanClass;
+pub use laws::{
+    any_order_packs_the_same, packed_sections_are_good, packing_keeps_each_record,
+    sound_sections_fit,
+};
+pub use road_class::RoadClass;
