@@ -20,6 +20,9 @@ use Rattle.file_grammar.specs.Readings.{message_at, message_from}
 use Rattle.file_grammar.specs.Sections.{Block, Entry, Placed, placed, texts_in}
 use Rattle.boxed_check.specs.Blocks.{AreRecordsSeen, AreTextsSeen, IsGoodBlock, IsTextBehind, RecordsLeft, TextsLeft, entries_left, text_before}
 use Rattle.obf_wire.specs.KnownKeys.{StandsFirst}
+use Rattle.obf_wire.specs.Windows.{range_of}
+use Rattle.boxed_exact.specs.declared.block_texts.BlockTexts.{BlockTexts}
+use Rattle.boxed_exact.specs.Texts.{AreTexts}
 use Rattle.boxed_exact.specs.Records.{IsGoodRecord, entry_of}
 use Rattle.file_grammar.proofs.Built.{bytes_before, ends_there, message_before}
 
@@ -84,10 +87,10 @@ texts_on w before f count total window read behind l =
 -- ---- records
 
 module _ {K : Type 0} (class : Boxed) (boxing : Boxing) (key_of : Entry → K) (beside : Beside) (holder : Rect) where
-  pub records_end : (w : Window) (texts ordinal : ℕ) (before : Option K) (count : ℕ) → IsWindow w → w.end ≤ w.place → RecordsLeft class boxing key_of beside holder w texts ordinal before count count
+  pub records_end : (w : Window) (texts : BlockTexts) (ordinal : ℕ) (before : Option K) (count : ℕ) → IsWindow w → w.end ≤ w.place → RecordsLeft class boxing key_of beside holder w texts ordinal before count count
   records_end w texts ordinal before count window none = record { fields = ends; read = ends_there (BlockPart class) (Some 18) w window none refl; facts = λ block prev is_texts is. tt; points = refl; count_is = omega arith }
 
-  pub records_on : (w : Window) (texts ordinal : ℕ) (before : Option K) (f : Field) (next : ℕ) (key : K) (count total : ℕ) → IsWindow w → StandsFirst w 18 f
+  pub records_on : (w : Window) (texts : BlockTexts) (ordinal : ℕ) (before : Option K) (f : Field) (next : ℕ) (key : K) (count total : ℕ) → IsWindow w → StandsFirst w 18 f
       → IsGoodRecord class boxing key_of beside holder before texts ordinal f.at (record { bytes = w.bytes; place = f.from; end = f.to }) next key
       → RecordsLeft class boxing key_of beside holder (at_place w f.to) texts next (Some key) (count + 1) total → RecordsLeft class boxing key_of beside holder w texts ordinal before count total
   records_on w texts ordinal before f next key count total window read g left =
@@ -107,20 +110,22 @@ module _ {K : Type 0} (class : Boxed) (boxing : Boxing) (key_of : Entry → K) (
   unfolding message_from
   records_again w fields e = e
 
-  pub block_is : (w : Window) (at : ℕ) (f : Field) (named count : ℕ) → IsWindow w → StandsFirst w 14 f → AreTextsSeen (record { bytes = w.bytes; place = f.from; end = f.to }) named
-      → AreRecordsSeen class boxing key_of beside holder (at_place w f.to) named count → 1 ≤ count → count ≤ 64 → IsGoodBlock class boxing beside holder w at count
-  block_is w at f named count window read t r some few =
+  pub block_is : (w : Window) (at : ℕ) (f : Field) (texts : BlockTexts) (count : ℕ) → IsWindow w → StandsFirst w 14 f → range_of texts.window ≡ record { bytes = w.bytes; place = f.from; end = f.to } → AreTextsSeen (range_of texts.window) texts.count
+      → AreRecordsSeen class boxing key_of beside holder (at_place w f.to) texts count → 1 ≤ count → count ≤ 64 → IsGoodBlock class boxing beside holder w at count
+  block_is w at f texts count window read is t r some few =
       let block : Block = record { at = at; texts = texts_in t.fields; entries = entries_left 0 r.fields } in
       let counted : length block.entries ≡ count = omega (arith, r.count_is) in
+      let there = texts_again (range_of texts.window) t.fields t.read in
+      let held : AreTexts texts block.texts = record { fields = t.fields; read = there; are = refl; count = omega (arith, t.count_is) } in
       record {
         fields = has_message f.at 14 t.fields r.fields;
-        read = message_before (BlockPart class) None w 14 Texts f t.fields r.fields window refl refl read (texts_again (record { bytes = w.bytes; place = f.from; end = f.to }) t.fields t.read) (records_again (at_place w f.to) r.fields r.read);
+        read = message_before (BlockPart class) None w 14 Texts f t.fields r.fields window refl refl read (subst (λ (v : Window). message_at Texts v ≡ fields_ok t.fields) is there) (records_again (at_place w f.to) r.fields r.read);
         block = block;
         is = refl;
         at_is = refl;
         facts = (
           both (nat_le 1 (length block.entries)) (nat_le (length block.entries) 64) (le-leb 1 (length block.entries) (omega (arith, counted, some))) (le-leb (length block.entries) 64 (omega (arith, counted, few))),
-          all_append (map text_fact (with_before None block.texts)) (flat_map (boxing.facts beside block) (with_before None block.entries)) (t.facts None refl) (r.facts block None (omega (arith, t.count_is)) refl),
+          all_append (map text_fact (with_before None block.texts)) (flat_map (boxing.facts beside block) (with_before None block.entries)) (t.facts None refl) (r.facts block None held refl),
         );
         points = r.points;
         count_is = counted;

@@ -9,7 +9,7 @@ ghost use Rattle.boxed_check.specs.Blocks.{AreRecordsSeen, IsGoodBlock};
 ghost use Rattle.boxed_exact.specs.Boxes.{box_of};
 
 use crate::texts::texts_in;
-use boxed_exact::{Around, CheckClass, Edges};
+use boxed_exact::{Around, BlockTexts, CheckClass, Edges};
 use obf_wire::{Window, expected, expected_wide};
 
 /// The keys of the texts of a block, and of a record.
@@ -34,10 +34,15 @@ pub(crate) fn see_block<C: CheckClass>(
     let Some(texts) = expected_wide(window, window.from(), TEXTS) else {
         return None;
     };
-    let Some(named) = texts_in(window.part(texts.from, texts.to)) else {
+    let range = window.part(texts.from, texts.to);
+    let Some(named) = texts_in(range) else {
         return None;
     };
-    let Some(count) = records_in::<C>(window, texts.to, named, holder, around) else {
+    let held = BlockTexts {
+        window: range,
+        count: named,
+    };
+    let Some(count) = records_in::<C>(window, texts.to, held, holder, around) else {
         return None;
     };
     if count == 0 || count > MOST {
@@ -46,17 +51,17 @@ pub(crate) fn see_block<C: CheckClass>(
     Some(count)
 }
 
-/// How many records stand from `from` on in a window, in a block with so many texts.
+/// How many records stand from `from` on in a window, in a block with these texts.
 fn records_in<C: CheckClass>(
     window: Window<'_>,
     from: usize,
-    texts: usize,
+    texts: BlockTexts<'_>,
     holder: &Edges,
     around: &Around<'_>,
 ) -> Option<usize>
     requires inside { from ≤ window.to }
     requires marks { AreRising around.now.marks }
-    ensures { IfSome result (AreRecordsSeen C.class C.boxing C.key_of (beside around.now) (box_of holder.now) (part_of window.entry.bytes.now from window.entry.to) texts) }
+    ensures { IfSome result (AreRecordsSeen C.class C.boxing C.key_of (beside around.now) (box_of holder.now) (part_of window.entry.bytes.now from window.entry.to) texts.entry) }
 {
     let mut at = from;
     let mut ordinal = 0;

@@ -19,6 +19,6 @@ mod texts;
 
 pub use checked::check;
 pub use kept::Kept;
-pub use points::points_in;
+pub use points::{Spot, moved, points_in};
 pub use section::see_section;
 pub use surveying::survey;

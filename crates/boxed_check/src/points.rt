@@ -44,7 +44,7 @@ pub fn points_in(window: Window<'_>, holder: &Edges) -> Option<usize>
 }
 
 /// Where the next step leads, if into the box.
-fn moved(window: Window<'_>, spot: &Spot, holder: &Edges) -> Option<Spot>
+pub fn moved(window: Window<'_>, spot: &Spot, holder: &Edges) -> Option<Spot>
     requires inside { spot.now.next < window.to }
     requires spot { IsOnGridSpot spot.now.x spot.now.y }
     ensures moved { IfSome result (IsMoved (part_of window.entry.bytes.now spot.now.next window.entry.to) (box_of holder.now) spot.now.x spot.now.y) }

@@ -6,3 +6,4 @@ pub mod NodeWalk
 pub mod RecordWalk
 pub mod BlockWalk
 pub mod LevelsBelow
+pub mod BlockTextWalk

@@ -23,7 +23,9 @@ use Rattle.file_grammar.specs.Tables.{content_of}
 use Rattle.file_grammar.specs.Walks.{Standing, left_in, IsNext, HoldsMessage}
 use Rattle.file_grammar.proofs.Earlier.{and_before, and_last, and_more, earlier_joined, earlier_none, first_joined}
 use Rattle.file_grammar.proofs.Shaped.{AreMessages, BeginsMessage, are_messages, begins_message, shaped}
+use Rattle.boxed_exact.specs.declared.block_texts.BlockTexts.{BlockTexts}
 use Rattle.boxed_exact.specs.declared.blocks.BlockSeen.{BlockSeen}
+use Rattle.boxed_exact.specs.Texts.{AreTexts}
 use Rattle.boxed_exact.specs.Fields.{HoldsInner}
 use Rattle.boxed_exact.specs.Records.{AreRecords, AreRecordsChecked, IsRecordChecked}
 
@@ -115,9 +117,9 @@ module _ {K : Type 0} (class : Boxed) (boxing : Boxing) (key_of : Entry → K) (
             ∙ ap (λ (o : ℕ). (seen.in_box && more) && all_in (others o)) same;
       }
 
-  pub records_on : (all : Fields) (start now new : Option FileBreak) (ordinal next texts : ℕ) (before : Option K) (key : K) (seen : BlockSeen) (more : Bool) (s behind : Standing) (f : Field)
-      → RecordsLeft all start now ordinal before seen s → s.part ≡ BlockPart class → ((fields : Fields) → left_in s ≡ Ok fields → IsNext s behind f fields) → length block.texts ≡ texts
-      → ((fields : Fields) (block : Block) (prev : Option Entry) → message_at (Record class) (payload_of s.window.bytes f) ≡ Ok fields → length block.texts ≡ texts → option_map key_of prev ≡ before
+  pub records_on : (all : Fields) (start now new : Option FileBreak) (ordinal next : ℕ) (texts : BlockTexts) (before : Option K) (key : K) (seen : BlockSeen) (more : Bool) (s behind : Standing) (f : Field)
+      → RecordsLeft all start now ordinal before seen s → s.part ≡ BlockPart class → ((fields : Fields) → left_in s ≡ Ok fields → IsNext s behind f fields) → AreTexts texts block.texts
+      → ((fields : Fields) (block : Block) (prev : Option Entry) → message_at (Record class) (payload_of s.window.bytes f) ≡ Ok fields → AreTexts texts block.texts → option_map key_of prev ≡ before
       → IsRecordChecked boxing key_of beside holder block prev (record { at = f.at; ordinal = ordinal + step_of fields; fields = fields }) now new next key more)
       → RecordsLeft all start new next (Some key) (record { count = seen.count + 1; in_box = seen.in_box && more }) behind
   records_on all start now new ordinal next texts before key seen more s behind f l is next_is is_texts see =

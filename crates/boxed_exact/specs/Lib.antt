@@ -1,5 +1,6 @@
 pub mod Boxes
 pub mod Sides
+pub mod Texts
 pub mod Fields
 pub mod Nodes
 pub mod Numbers

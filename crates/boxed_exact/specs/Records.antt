@@ -12,7 +12,9 @@ use Rattle.file_grammar.specs.Facts.{AllHold, earlier, first_failing}
 use Rattle.file_grammar.specs.Messages.{Fields, ends, has_message}
 use Rattle.file_grammar.specs.Readings.{message_at}
 use Rattle.file_grammar.specs.Sections.{Block, Entry, block_with, entries_from, messages_in, step_of}
+use Rattle.boxed_exact.specs.declared.block_texts.BlockTexts.{BlockTexts}
 use Rattle.boxed_exact.specs.declared.blocks.BlockSeen.{BlockSeen}
+use Rattle.boxed_exact.specs.Texts.{AreTexts}
 
 -- messages behind the key of records
 abbrev pub AreRecords : Fields → Type 0
@@ -44,11 +46,11 @@ pub record IsBlockChecked (boxing : Boxing) (beside : Beside) (holder : Rect) (a
 abbrev pub entry_of : ℕ → ℕ → Fields → Entry
 entry_of before at fields = record { at = at; ordinal = before + step_of fields; fields = fields }
 
--- the window holds a record of good form that may stand in a block of so many texts after one of this ordinal and key
-pub record IsGoodRecord {K : Type 0} (class : Boxed) (boxing : Boxing) (key_of : Entry → K) (beside : Beside) (holder : Rect) (before : Option K) (texts from at : ℕ) (w : Window) (ordinal : ℕ) (key : K) : Type 0 where
+-- the window holds a record of good form that may stand in a block of these texts after one of this ordinal and key
+pub record IsGoodRecord {K : Type 0} (class : Boxed) (boxing : Boxing) (key_of : Entry → K) (beside : Beside) (holder : Rect) (before : Option K) (texts : BlockTexts) (from at : ℕ) (w : Window) (ordinal : ℕ) (key : K) : Type 0 where
   pub fields : Fields
   pub read : message_at (Record class) w ≡ Ok fields
   pub ordinal_is : ordinal ≡ from + step_of fields
   pub key_is : key ≡ key_of (entry_of from at fields)
-  pub facts : (block : Block) (prev : Option Entry) → length block.texts ≡ texts → option_map key_of prev ≡ before → AllHold (boxing.facts beside block (prev, entry_of from at fields))
+  pub facts : (block : Block) (prev : Option Entry) → AreTexts texts block.texts → option_map key_of prev ≡ before → AllHold (boxing.facts beside block (prev, entry_of from at fields))
   pub points : list_all (holds_place holder) (boxing.points (entry_of from at fields)) ≡ true

@@ -11,8 +11,10 @@ ghost use Rattle.obf_wire.specs.Windows.{range_of};
 ghost use Rattle.boxed_exact.specs.Boxes.{box_of};
 ghost use Rattle.boxed_exact.specs.Records.{AreRecords, AreRecordsChecked, IsBlockChecked};
 ghost use Rattle.boxed_exact.specs.Sides.{AreRising, beside};
+ghost use Rattle.boxed_exact.specs.Texts.{AreTexts};
 
 use crate::around::Around;
+use crate::block_texts::BlockTexts;
 use crate::class::CheckClass;
 use crate::edges::Edges;
 use crate::fields::next_payload;
@@ -41,8 +43,13 @@ pub(crate) fn check_block<C: CheckClass>(
 {
     let mut walk = FieldWalk::new(Part::Block(C::class()), window);
     let texts = next_payload(&mut walk);
-    let count = check_texts(window.part(texts.from, texts.to), first);
-    let seen = check_records::<C>(&mut walk, window.all(), count, holder, around, first);
+    let range = window.part(texts.from, texts.to);
+    let count = check_texts(range, first);
+    let texts = BlockTexts {
+        window: range,
+        count,
+    };
+    let seen = check_records::<C>(&mut walk, window.all(), texts, holder, around, first);
     first.ask(at, FileKind::BadCount, is_count(seen.count));
     seen
 }
@@ -54,11 +61,11 @@ fn is_count(count: usize) -> bool
     1 <= count && count <= 64
 }
 
-/// The records of a block with so many texts, one after another.
+/// The records of a block with these texts, one after another.
 fn check_records<C: CheckClass>(
     walk: &mut FieldWalk<'_>,
     bytes: &[u8],
-    texts: usize,
+    texts: BlockTexts<'_>,
     holder: &Edges,
     around: &Around<'_>,
     first: &mut FirstBreak,
@@ -67,7 +74,7 @@ fn check_records<C: CheckClass>(
     requires part { walk.old.part ≡ Block C.class }
     requires window { IsWindow walk.old.window }
     requires same { walk.old.window.bytes ≡ bytes.now }
-    ensures { (fields : Fields) → left_in walk.old ≡ Ok fields → AreRecords fields → (block : BlockOf) → length block.texts ≡ texts
+    ensures { (fields : Fields) → left_in walk.old ≡ Ok fields → AreRecords fields → (block : BlockOf) → AreTexts texts.entry block.texts
         → AreRecordsChecked C.boxing (beside around.now) (box_of holder.now) block fields first.old first.new result }
 {
     let mut ordinal = 0;

@@ -1,6 +1,6 @@
 //! What a class of boxed records brings to be checked.
 
-ghost use Rattle.std.specs.Prelude.{◌≡◌, ◌≤◌, ◌+◌, Option, length, IfSome, Ok};
+ghost use Rattle.std.specs.Prelude.{◌≡◌, ◌≤◌, ◌+◌, Option, IfSome, Ok};
 ghost use Rattle.std.specs.Option.{option_map};
 ghost use Rattle.obf_wire.specs.Windows.{range_of};
 ghost use Rattle.file_grammar.specs.declared.parts.Boxed.{Boxed};
@@ -12,8 +12,10 @@ ghost use Rattle.file_grammar.specs.Sections.{Block, Entry, step_of};
 ghost use Rattle.boxed_exact.specs.Boxes.{box_of};
 ghost use Rattle.boxed_exact.specs.Records.{IsGoodRecord, IsRecordChecked};
 ghost use Rattle.boxed_exact.specs.Sides.{AreRising, beside};
+ghost use Rattle.boxed_exact.specs.Texts.{AreTexts};
 
 use crate::around::Around;
+use crate::block_texts::BlockTexts;
 use crate::edges::Edges;
 use file_grammar::{Boxed as Class, FirstBreak};
 use obf_wire::Window;
@@ -50,14 +52,14 @@ pub trait CheckClass {
     fn class() -> Class
         ensures { result ≡ class };
 
-    /// Checks every rule of the record in a window, whose form is good and whose field begins at `at`, after one of this ordinal and key, in a block of so many
-    /// texts, and whether its points are in a box.
+    /// Checks every rule of the record in a window, whose form is good and whose field begins at `at`, after one of this ordinal and key, in a block of
+    /// these texts, and whether its points are in a box.
     fn check(
         window: Window<'_>,
         at: usize,
         ordinal: u128,
         before: Option<Self::Key>,
-        texts: usize,
+        texts: BlockTexts<'_>,
         holder: &Edges,
         around: &Around<'_>,
         first: &mut FirstBreak,
@@ -65,23 +67,23 @@ pub trait CheckClass {
         requires few { ordinal ≤ 340282366920938463444927863358058659840 }
         requires marks { AreRising around.now.marks }
         ensures checked { (fields : Fields) (block : Block) (prev : Option Entry) → message_at (RecordPart class) (range_of window.entry) ≡ Ok fields
-            → length block.texts ≡ texts → option_map key_of prev ≡ before
+            → AreTexts texts.entry block.texts → option_map key_of prev ≡ before
             → IsRecordChecked boxing key_of (beside around.now) (box_of holder.now) block prev (record { at = at; ordinal = ordinal + step_of fields; fields = fields }) first.old first.new result.ordinal result.key result.in_box }
         ensures step { result.ordinal ≤ ordinal + 18446744073709551615 };
 
-    /// The record in a window, whose field begins at `at`, after one of this ordinal and key, in a block of so many texts: `Some` only where its form is good
+    /// The record in a window, whose field begins at `at`, after one of this ordinal and key, in a block of these texts: `Some` only where its form is good
     /// and every rule holds, and its points are in the box. `None` says nothing.
     fn see(
         window: Window<'_>,
         at: usize,
         ordinal: u64,
         before: Option<Self::Key>,
-        texts: usize,
+        texts: BlockTexts<'_>,
         holder: &Edges,
         around: &Around<'_>,
     ) -> Option<Seen<Self::Key>>
         requires few { ordinal ≤ 4503599627370496 }
         requires marks { AreRising around.now.marks }
-        ensures good { IfSome result (λ seen. IsGoodRecord class boxing key_of (beside around.now) (box_of holder.now) before texts ordinal at (range_of window.entry) seen.ordinal seen.key) }
+        ensures good { IfSome result (λ seen. IsGoodRecord class boxing key_of (beside around.now) (box_of holder.now) before texts.entry ordinal at (range_of window.entry) seen.ordinal seen.key) }
         ensures few { IfSome result (λ seen. seen.ordinal ≤ 4503599627370496) };
 }

@@ -9,6 +9,7 @@
 #![tactic(auto)]
 
 mod around;
+mod block_texts;
 mod blocks;
 mod class;
 mod edges;
@@ -21,13 +22,16 @@ mod section;
 mod texts;
 
 pub use around::Around;
+pub use block_texts::BlockTexts;
 pub use blocks::BlockSeen;
 pub use class::{CheckClass, Checked, Seen};
 pub use edges::Edges;
 pub use fields::{Number, Payload, next_number, next_payload};
 pub use marks::{has_mark, is_marked};
 pub use nodes::{LeafSeen, check_nodes, part_below};
-pub use ordinals::{is_node, is_ordinal, is_way};
-pub use points::{PointsSeen, Step, next_step, see_points};
+pub use ordinals::{is_node, is_ordinal, is_relation, is_way};
+pub use points::{
+    PointsSeen, Spot, Step, holds, is_on_grid, moved, next_step, next_value, see_points,
+};
 pub use section::check_exactly;
 pub use texts::{is_utf8, text_rises};

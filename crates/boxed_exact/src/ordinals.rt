@@ -2,6 +2,7 @@
 
 ghost use Rattle.std.specs.Prelude.{◌≡◌};
 ghost use Rattle.file_grammar.specs.BoxRules.{is_node, is_ordinal, is_way};
+ghost use Rattle.file_grammar.specs.RecordRules.{is_relation};
 
 /// How far the ordinals of one kind of object lie from those of the next.
 const ORDINALS: u128 = 1_125_899_906_842_624;
@@ -28,4 +29,11 @@ pub fn is_way(n: u128) -> bool
     ensures { result ≡ is_way n }
 {
     n / ORDINALS == 1
+}
+
+/// Whether the number would be that of a relation.
+pub fn is_relation(n: u128) -> bool
+    ensures { result ≡ is_relation n }
+{
+    n / ORDINALS == 2
 }

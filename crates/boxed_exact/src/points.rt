@@ -59,7 +59,7 @@ pub fn see_points(window: Window<'_>, holder: &Edges) -> PointsSeen
 }
 
 /// Where a step leads.
-fn moved(spot: Spot, step: Step) -> Spot
+pub fn moved(spot: Spot, step: Step) -> Spot
     requires x { IsReached 9223372036854775808 spot.x }
     requires y { IsReached 9223372036854775808 spot.y }
     ensures x { result.x ≡ spot.x +ℤ step.east }
@@ -92,10 +92,10 @@ pub fn next_step(window: Window<'_>, at: usize) -> Option<Step>
         → IsStep (part_of window.entry.bytes.now at window.entry.to) numbers result }
     ensures forward { IfSome result (λ step. (at + 2 ≤ step.next) × (step.next ≤ window.entry.to)) }
 {
-    let Some((x, between)) = next_number(window, at) else {
+    let Some((x, between)) = next_value(window, at) else {
         return None;
     };
-    let Some((y, next)) = next_number(window, between) else {
+    let Some((y, next)) = next_value(window, between) else {
         return None;
     };
     Some(step_by(x, y, next))
@@ -115,7 +115,7 @@ fn step_by(x: u64, y: u64, next: usize) -> Step
 }
 
 /// The number that is next, and the place behind it; `None` at the end.
-fn next_number(window: Window<'_>, at: usize) -> Option<(u64, usize)>
+pub fn next_value(window: Window<'_>, at: usize) -> Option<(u64, usize)>
     requires { at ≤ window.to }
     ensures number { (numbers : List ℕ) → numbers_at (part_of window.entry.bytes.now at window.entry.to) ≡ Ok numbers
         → MatchOption result (numbers ≡ []) (λ n. Continues (part_of window.entry.bytes.now at window.entry.to) numbers n.0 n.1) }
@@ -130,14 +130,15 @@ fn next_number(window: Window<'_>, at: usize) -> Option<(u64, usize)>
     }
 }
 
-fn is_on_grid(spot: Spot) -> bool
+/// Whether a point is on the grid.
+pub fn is_on_grid(spot: Spot) -> bool
     ensures { result ≡ is_on_grid (spot.x, spot.y) }
 {
     0 <= spot.x && spot.x <= 3_600_000_000 && (0 <= spot.y && spot.y <= 1_800_000_000)
 }
 
 /// Whether a point is in the box, where it is on the grid.
-fn holds(holder: &Edges, spot: Spot) -> bool
+pub fn holds(holder: &Edges, spot: Spot) -> bool
     ensures { result ≡ holds_place (box_of holder.now) (spot.x, spot.y) }
 {
     spans(holder.left, holder.right, spot.x) && spans(holder.top, holder.bottom, spot.y)

@@ -1,5 +1,6 @@
 mod FormRows
 mod RuleRows
+mod RoadRows
 mod FileRows
 mod PackedSectionRows
 mod PackedFileRows

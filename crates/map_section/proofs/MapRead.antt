@@ -17,6 +17,7 @@ use Rattle.file_grammar.specs.Messages.{Fields, ends, has_number, has_numbers}
 use Rattle.file_grammar.specs.Readings.{message_from}
 use Rattle.file_grammar.specs.Sections.{Entry}
 use Rattle.file_grammar.proofs.Built.{ends_there, number_before, numbers_before}
+use Rattle.boxed_exact.specs.declared.block_texts.BlockTexts.{BlockTexts}
 use Rattle.boxed_exact.specs.Records.{IsGoodRecord, entry_of}
 use Rattle.boxed_check.specs.Points.{ArePointsSeen}
 use Rattle.boxed_check.proofs.NodeWalk.{window_behind}
@@ -62,22 +63,22 @@ in_order : (prev : Option Entry) (entry : Entry) → may_follow (option_map key_
 in_order None entry h = h
 in_order (Some before) entry h = h
 
-pub record_is : (beside : Beside) (holder : Rect) (before : Option Key) (texts from at count ordinal : ℕ) (w : Window) (r : MapRead) (key : Key) → IsMapRead w r → ArePointsSeen (record { bytes = w.bytes; place = r.from; end = r.to }) holder count
-    → ordinal ≡ from + r.step → key ≡ record { ordinal = ordinal; rule = r.rule } → IsGoodMap beside texts before key r.shape r.name count → IsGoodRecord Map map_boxing key_of beside holder before texts from at w ordinal key
+pub record_is : (beside : Beside) (holder : Rect) (before : Option Key) (texts : BlockTexts) (from at count ordinal : ℕ) (w : Window) (r : MapRead) (key : Key) → IsMapRead w r → ArePointsSeen (record { bytes = w.bytes; place = r.from; end = r.to }) holder count
+    → ordinal ≡ from + r.step → key ≡ record { ordinal = ordinal; rule = r.rule } → IsGoodMap beside texts.count before key r.shape r.name count → IsGoodRecord Map map_boxing key_of beside holder before texts from at w ordinal key
 record_is beside holder before texts from at count ordinal w r key read points is_ordinal is_key good =
     let fields : Fields = map_message read.a read.b read.c read.d read.e r.step r.rule r.shape r.name points.numbers in
     let made : ℕ → Key = λ o. record { ordinal = o; rule = r.rule } in
     let here : key ≡ key_of (entry_of from at fields) = is_key ∙ ap made is_ordinal in
     let counted : count ≡ length (places points.numbers) = omega (arith, points.count_is) in
-    let g : IsGoodMap beside texts before (key_of (entry_of from at fields)) r.shape r.name (length (places points.numbers)) = subst (IsGoodMap beside texts before (key_of (entry_of from at fields)) r.shape r.name) counted (subst (λ (k : Key). IsGoodMap beside texts before k r.shape r.name count) here good) in
+    let g : IsGoodMap beside texts.count before (key_of (entry_of from at fields)) r.shape r.name (length (places points.numbers)) = subst (IsGoodMap beside texts.count before (key_of (entry_of from at fields)) r.shape r.name) counted (subst (λ (k : Key). IsGoodMap beside texts.count before k r.shape r.name count) here good) in
     record {
       fields = fields;
       read = read.read points.numbers points.read points.pairs;
       ordinal_is = is_ordinal;
       key_is = here;
-      facts = λ block prev is_texts is_before. (
+      facts = λ block prev held is_before. (
         in_order prev (entry_of from at fields) (subst (λ (b : Option Key). may_follow b (key_of (entry_of from at fields)) ≡ true) (sym is_before) g.order),
-        (g.id, (g.mark, (g.rule, (g.shape_is, (subst (λ (n : ℕ). nat_le r.name n ≡ true) (sym is_texts) g.name_is, (both _ _ points.on_grid g.count_is, tt)))))),
+        (g.id, (g.mark, (g.rule, (g.shape_is, (subst (λ (n : ℕ). nat_le r.name n ≡ true) (sym held.count) g.name_is, (both _ _ points.on_grid g.count_is, tt)))))),
       );
       points = points.in_box;
     }

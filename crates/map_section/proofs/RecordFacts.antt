@@ -12,7 +12,9 @@ use Rattle.file_grammar.specs.Facts.{Fact, fact, earlier, failing, first_failing
 use Rattle.file_grammar.specs.MapRules.{MapFields, draws, entries_rise, is_count_for, is_drawn_of, map_boxing, map_facts, map_fields}
 use Rattle.file_grammar.specs.Sections.{Placed, Block, Entry}
 use Rattle.file_grammar.proofs.Earlier.{and_last, and_one}
+use Rattle.boxed_exact.specs.declared.block_texts.BlockTexts.{BlockTexts}
 use Rattle.boxed_exact.specs.declared.fields.Number.{Number}
+use Rattle.boxed_exact.specs.Texts.{AreTexts}
 use Rattle.map_section.specs.declared.record_rules.EntrySeen.{EntrySeen}
 use Rattle.map_section.specs.declared.record_rules.Key.{Key}
 use Rattle.map_section.specs.Blocks.{AreFieldsSeen, IsSeen, key_seen}
@@ -101,11 +103,11 @@ facts_seen beside block texts prev before entry seen holder is_texts is_before s
 abbrev made_key : ℕ → ℕ → Key
 made_key ordinal rule = record { ordinal = ordinal; rule = rule }
 
-pub record_checked : (beside : Beside) (holder : Rect) (block : Block) (texts : ℕ) (prev : Option Entry) (before : Option Key) (entry : Entry) (seen : EntrySeen) (old new : Option FileBreak) (key : Key) → length block.texts ≡ texts → option_map key_of prev ≡ before
-    → IsSeen holder entry seen → new ≡ earlier old (first_failing (seen_facts beside texts before seen)) → key ≡ key_seen seen
+pub record_checked : (beside : Beside) (holder : Rect) (block : Block) (texts : BlockTexts) (prev : Option Entry) (before : Option Key) (entry : Entry) (seen : EntrySeen) (old new : Option FileBreak) (key : Key) → AreTexts texts block.texts → option_map key_of prev ≡ before
+    → IsSeen holder entry seen → new ≡ earlier old (first_failing (seen_facts beside texts.count before seen)) → key ≡ key_seen seen
     → IsRecordChecked map_boxing key_of beside holder block prev entry old new seen.ordinal key seen.points.in_box
-record_checked beside holder block texts prev before entry seen old new key is_texts is_before s e is_key = record {
-  asked = e ∙ ap (λ (fs : List Fact). earlier old (first_failing fs)) (facts_seen beside block texts prev before entry seen holder is_texts is_before s);
+record_checked beside holder block texts prev before entry seen old new key held is_before s e is_key = record {
+  asked = e ∙ ap (λ (fs : List Fact). earlier old (first_failing fs)) (facts_seen beside block texts.count prev before entry seen holder held.count is_before s);
   ordinal_is = s.ordinal;
   key_is = is_key ∙ ap (λ (o : ℕ). made_key o seen.fields.rule.value) s.ordinal ∙ ap (made_key entry.ordinal) s.fields.rule.1;
   in_box_is = s.fields.in_box;

@@ -12,6 +12,7 @@ ghost use Rattle.file_grammar.specs.Sections.{Block, Entry, step_of};
 ghost use Rattle.boxed_exact.specs.Boxes.{box_of};
 ghost use Rattle.boxed_exact.specs.Records.{IsGoodRecord, IsRecordChecked};
 ghost use Rattle.boxed_exact.specs.Sides.{AreRising, beside};
+ghost use Rattle.boxed_exact.specs.Texts.{AreTexts};
 ghost use Rattle.map_section.specs.Blocks.{IsSeen, key_seen};
 ghost use Rattle.map_section.specs.EntryFacts.{key_of};
 ghost use Rattle.map_section.specs.MapReads.{IsMapRead};
@@ -20,7 +21,7 @@ use crate::class::MapClass;
 use crate::entries::read_entry;
 use crate::record_rules::{EntrySeen, Key, check_entry, is_good};
 use boxed_check::points_in;
-use boxed_exact::{Around, CheckClass, Checked, Edges, Seen, see_points};
+use boxed_exact::{Around, BlockTexts, CheckClass, Checked, Edges, Seen, see_points};
 use file_grammar::{Boxed, FirstBreak};
 use obf_wire::{Window, expected};
 
@@ -73,7 +74,7 @@ impl CheckClass for MapClass {
         at: usize,
         ordinal: u128,
         before: Option<Key>,
-        texts: usize,
+        texts: BlockTexts<'_>,
         holder: &Edges,
         around: &Around<'_>,
         first: &mut FirstBreak,
@@ -81,12 +82,12 @@ impl CheckClass for MapClass {
         requires few { ordinal ≤ 340282366920938463444927863358058659840 }
         requires marks { AreRising around.now.marks }
         ensures checked { (fields : Fields) (block : Block) (prev : Option Entry) → message_at (Record Map) (range_of window.entry) ≡ Ok fields
-            → length block.texts ≡ texts → option_map key_of prev ≡ before
+            → AreTexts texts.entry block.texts → option_map key_of prev ≡ before
             → IsRecordChecked map_boxing key_of (beside around.now) (box_of holder.now) block prev (record { at = at; ordinal = ordinal + step_of fields; fields = fields }) first.old first.new result.ordinal result.key result.in_box }
         ensures step { result.ordinal ≤ ordinal + 18446744073709551615 }
     {
         let entry = see_entry(window, at, ordinal, holder);
-        check_entry(&entry, before, texts, around, first);
+        check_entry(&entry, before, texts.count, around, first);
         Checked {
             ordinal: entry.ordinal,
             key: key_of(&entry),
@@ -99,13 +100,13 @@ impl CheckClass for MapClass {
         at: usize,
         ordinal: u64,
         before: Option<Key>,
-        texts: usize,
+        texts: BlockTexts<'_>,
         holder: &Edges,
         around: &Around<'_>,
     ) -> Option<Seen<Key>>
         requires few { ordinal ≤ 4503599627370496 }
         requires marks { AreRising around.now.marks }
-        ensures good { IfSome result (λ seen. IsGoodRecord Map map_boxing key_of (beside around.now) (box_of holder.now) before texts ordinal at (range_of window.entry) seen.ordinal seen.key) }
+        ensures good { IfSome result (λ seen. IsGoodRecord Map map_boxing key_of (beside around.now) (box_of holder.now) before texts.entry ordinal at (range_of window.entry) seen.ordinal seen.key) }
         ensures few { IfSome result (λ seen. seen.ordinal ≤ 4503599627370496) }
     {
         let Some(read) = read_fields(window) else {
@@ -122,7 +123,17 @@ impl CheckClass for MapClass {
             ordinal: u128::from(next),
             rule: read.rule,
         };
-        if next > LAST || !is_good(around, texts, before, key, read.shape, read.name, count) {
+        if next > LAST
+            || !is_good(
+                around,
+                texts.count,
+                before,
+                key,
+                read.shape,
+                read.name,
+                count,
+            )
+        {
             return None;
         }
         Some(Seen { ordinal: next, key })

@@ -1,1 +1,6 @@
+pub mod Checked
 pub mod PackedRouting
+pub mod PlacedNumbers
+pub mod RecordShape
+pub mod StopWalk
+pub mod StraightLines

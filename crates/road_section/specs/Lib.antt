@@ -1,6 +1,11 @@
 pub mod BanLawful
+pub mod Held
 pub mod Laws
 pub mod Orders
 pub mod Restrictions
 pub mod RoadLawful
 pub mod Roads
+pub mod Routing
+pub mod SeenFacts
+pub mod Stops
+pub mod Straight

@@ -6,10 +6,20 @@
 //! of them, and which records they are, is said by the definitions of `file_grammar`.
 #![tactic(auto)]
 
+mod ban_checking;
 mod ban_class;
+mod ban_entries;
+mod ban_rules;
+mod good_nodes;
 mod laws;
 mod nodes;
+mod order;
+mod road_checking;
 mod road_class;
+mod road_entries;
+mod road_rules;
+mod stops;
+mod writing;
 
 pub use ban_class::BanClass;
 pub use laws::{
@@ -17,3 +27,4 @@ pub use laws::{
     sound_sections_fit,
 };
 pub use road_class::RoadClass;
+pub use writing::write;

@@ -1,4 +1,4 @@
-use Rattle.std.proofs.Common.{◌≡◌, ◌∙◌, ℕ, List, None, Ok, Result, map, flat_map, length, sym, ap, subst}
+use Rattle.std.proofs.Common.{◌≡◌, ◌∙◌, ℕ, None, Ok, Result, map, flat_map, length, refl, sym, ap, subst}
 use Rattle.std.specs.Prelude.{nat_le, ◌&&◌}
 use Rattle.obf_wire.specs.Fields.{Window, part_of}
 use Rattle.obf_wire.specs.Windows.{range_of}
@@ -13,6 +13,7 @@ use Rattle.file_grammar.specs.Readings.{message_at}
 use Rattle.file_grammar.specs.Sections.{Block, block_with, entries_from, messages_in, texts_in}
 use Rattle.file_grammar.specs.Walks.{Standing, left_in}
 use Rattle.boxed_exact.specs.Sides.{beside}
+use Rattle.boxed_exact.specs.Texts.{AreTexts}
 use Rattle.boxed_exact.proofs.RecordWalk.{IsBlockOf, asked_is, block_asked, block_of, held_texts}
 use Rattle.boxed_exact.proofs.blocks.check_block.Goals as goal
 
@@ -28,10 +29,16 @@ returns g c fields e =
     let begins : left_in c.new-walk.result ≡ stands fields = subst (λ (w : Standing). left_in w ≡ stands fields) (sym is) e in
     let t = c.next_payload-texts.ensures.message s.at 14 s.texts s.records (begins ∙ ap stands s.is) in
     let held = held_texts m.class c.new-walk.result c.next_payload-texts.result.from c.next_payload-texts.result.to s.texts (ap (λ (w : Standing). w.part) is) t.1 in
-    let there = ap (λ (w : Standing). part_of w.window.bytes c.next_payload-texts.result.from c.next_payload-texts.result.to) is ∙ sym c.part.ensures.range in
+    let there = ap (λ (w : Standing). part_of w.window.bytes c.next_payload-texts.result.from c.next_payload-texts.result.to) is ∙ sym c.part-range.ensures.range in
     let read = subst (λ (w : Window). message_at Texts w ≡ Ok s.texts) there held in
     let block : Block = record { at = c.args.at; texts = texts_in s.texts; entries = entries_from 0 (messages_in s.records) } in
-    let r = c.check_records-seen.ensures s.records t.2 s.are block (sym (c.check_texts-count.ensures.counted s.texts read)) in
+    let held_so : AreTexts (record { window = c.part-range.result; count = c.check_texts-count.result }) (texts_in s.texts) = record {
+      fields = s.texts;
+      read = read;
+      are = refl;
+      count = sym (c.check_texts-count.ensures.counted s.texts read);
+    } in
+    let r = c.check_records-seen.ensures s.records t.2 s.are block held_so in
     let is_count : c.is_count.result ≡ (nat_le 1 (length block.entries) && nat_le (length block.entries) 64) =
     c.is_count.ensures ∙ ap (λ (n : ℕ). nat_le 1 n && nat_le n 64) r.count in
     record {

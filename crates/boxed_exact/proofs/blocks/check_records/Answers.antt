@@ -1,4 +1,4 @@
-use Rattle.std.proofs.Common.{◌≡◌, ◌+◌, ◌∙◌, ℕ, List, Option, Some, Ok, sym, ap, subst, arith, length}
+use Rattle.std.proofs.Common.{◌≡◌, ◌+◌, ◌∙◌, ℕ, List, Option, Some, Ok, sym, ap, subst, arith}
 use Rattle.std.specs.Option.{option_map}
 use Rattle.obf_wire.specs.Fields.{Window, part_of}
 use Rattle.file_grammar.specs.declared.parts.Part.TheVariants.{Record}
@@ -9,6 +9,7 @@ use Rattle.boxed_exact.specs.declared.blocks.BlockSeen.{BlockSeen}
 use Rattle.boxed_exact.specs.Boxes.{box_of}
 use Rattle.boxed_exact.specs.Records.{IsRecordChecked}
 use Rattle.boxed_exact.specs.Sides.{beside}
+use Rattle.boxed_exact.specs.Texts.{AreTexts}
 use Rattle.boxed_exact.proofs.RecordWalk.{RecordsLeft, records_all, records_on}
 use Rattle.boxed_exact.proofs.blocks.check_records.Goals as goal
 
@@ -20,7 +21,7 @@ loop-field-preserved g c =
     let holder = box_of c.args.holder.now in
     let told = c.check-checked.result in
     let count : c.with_record-seen.result.count ≡ c.loop-field.seen.count + 1 = ap (λ (s : BlockSeen). s.count) c.with_record-seen.ensures in
-    let see = subst (λ (w : Window). (fields : Fields) (block : Block) (prev : Option Entry) → message_at (Record m.class) w ≡ Ok fields → length block.texts ≡ c.args.texts → option_map m.key_of prev ≡ c.loop-field.before
+    let see = subst (λ (w : Window). (fields : Fields) (block : Block) (prev : Option Entry) → message_at (Record m.class) w ≡ Ok fields → AreTexts c.args.texts block.texts → option_map m.key_of prev ≡ c.loop-field.before
     → IsRecordChecked m.boxing m.key_of side holder block prev (record { at = f.at; ordinal = c.loop-field.ordinal + step_of fields; fields = fields }) c.loop-field.first c.check-checked.new.first told.ordinal told.key told.in_box)
     (c.new-payload.ensures.range ∙ ap (λ (bytes : List ℕ). part_of bytes f.from f.to) (sym c.loop-field.invariant.same)) c.check-checked.ensures.checked in
     record {

@@ -1,7 +1,7 @@
 use Rattle.std.proofs.Common.{◌∙◌, ℕ, List, ap, sym}
 use Rattle.obf_wire.specs.Varint.{varint_at}
 use Rattle.boxed_exact.proofs.NumberWalk.{number_next}
-use Rattle.boxed_exact.proofs.points.next_number.Goals as goal
+use Rattle.boxed_exact.proofs.points.next_value.Goals as goal
 
 pub returns-in-Ok-clause-number : goal.returns-in-Ok-clause-number
 returns-in-Ok-clause-number c numbers e =
