@@ -8,5 +8,7 @@
 #![tactic(auto)]
 
 mod class;
+mod writing;
 
 pub use class::PoiClass;
+pub use writing::write;
