@@ -1,12 +1,13 @@
 -- Records in the order of their categories, group by group.
-use Rattle.std.proofs.Common.{◌≡◌, ℕ, zero, suc, ◌≤◌, Bool, true, false, cond, List, [], ◌∷◌, ◌++◌, length, map, take, drop, refl, sym, ap, ◌∙◌, arith}
+use Rattle.std.proofs.Common.{◌≡◌, ℕ, zero, suc, ◌≤◌, Bool, true, false, cond, List, [], ◌∷◌, ◌++◌, length, map, take, drop, refl, sym, ap, subst, ◌∙◌, arith}
 use Rattle.std.specs.Prelude.{filter, flat_map}
 use Rattle.std.specs.List.{AllByRecursion}
-use Rattle.std.specs.Ordering.{nat_cmp, is_eq, is_gt, is_lt, ordering_reverse}
+use Rattle.std.specs.Ordering.{is_eq, is_gt, is_lt, ordering_reverse}
 use Rattle.std.specs.declared.cmp.Ordering.{Ordering}
 use Rattle.std.specs.declared.cmp.Ordering.TheVariants.{Less, Equal, Greater}
 use Rattle.std.specs.Cmp.{IsTotalOrder}
 use Rattle.std.proofs.lemmas.Cmp.{nat_list_cmp_total}
+use Rattle.std.proofs.lemmas.List.{length-drop}
 use Rattle.live_model.specs.declared.records.PoiRec.{PoiRec}
 use Rattle.ordered_lists.specs.Ordered.{IsRisingBy, put_all, put_by, below, above}
 use Rattle.ordered_lists.proofs.PutAll.{all_filter, all_append, last_alone, none_same_over, put_all_same, rising-put_all, rising_unique}
@@ -51,18 +52,27 @@ same_categories ps qs alike =
     rising_unique text_cmp (λ c. c) total (categories_of ps) (categories_of qs) (categories_rise ps) (categories_rise qs)
     (λ z. kept_ties z ps ∙ ap (λ (xs : List PoiRec). last_alone [] (map of_poi xs)) (alike z) ∙ sym (kept_ties z qs))
 
-same_groups : (ps qs : List PoiRec) (categories : List Text) → ((z : Text) → of_category z ps ≡ of_category z qs)
-    → flat_map (λ c. group c (of_category c ps)) categories ≡ flat_map (λ c. group c (of_category c qs)) categories
-same_groups ps qs [] alike = refl
-same_groups ps qs (c ∷ cs) alike =
-    ap (λ (xs : List PoiRec). group c xs ++ flat_map (λ d. group d (of_category d ps)) cs) (alike c)
-    ∙ ap (λ (bytes : List ℕ). group c (of_category c qs) ++ bytes) (same_groups ps qs cs alike)
+-- what is made of the records of each category, category by category
+abbrev pub by_groups : {B : Type 0} → (Text → List PoiRec → List B) → List PoiRec → List B
+by_groups make ps = flat_map (λ c. make c (of_category c ps)) (categories_of ps)
+
+module _ {B : Type 0} (make : Text → List PoiRec → List B) where
+  same_groups : (ps qs : List PoiRec) (categories : List Text) → ((z : Text) → of_category z ps ≡ of_category z qs)
+      → flat_map (λ c. make c (of_category c ps)) categories ≡ flat_map (λ c. make c (of_category c qs)) categories
+  same_groups ps qs [] alike = refl
+  same_groups ps qs (c ∷ cs) alike =
+      ap (λ (xs : List PoiRec). make c xs ++ flat_map (λ d. make d (of_category d ps)) cs) (alike c)
+      ∙ ap (λ (made : List B). make c (of_category c qs) ++ made) (same_groups ps qs cs alike)
+
+  -- records that are the same, category by category, make the same groups
+  pub alike_groups : (ps qs : List PoiRec) → ((z : Text) → of_category z ps ≡ of_category z qs) → by_groups make ps ≡ by_groups make qs
+  alike_groups ps qs alike =
+      ap (flat_map (λ c. make c (of_category c ps))) (same_categories ps qs alike) ∙ same_groups ps qs (categories_of qs) alike
 
 -- records that are the same, category by category, are packed to the same bytes
 pub alike_packed : (ps qs : List PoiRec) → ((z : Text) → of_category z ps ≡ of_category z qs) → packed_pois ps ≡ packed_pois qs
 unfolding packed_pois
-alike_packed ps qs alike =
-    ap (flat_map (λ c. group c (of_category c ps))) (same_categories ps qs alike) ∙ same_groups ps qs (categories_of qs) alike
+alike_packed ps qs alike = alike_groups group ps qs alike
 
 -- ---- the order of texts
 
@@ -182,15 +192,6 @@ back_records c d (p ∷ ps) less = one (ties c p.category) refl (back_records c 
     one true e rest = rw (other (eq_is (text_cmp c p.category) e)) rest
     one false e rest = refl
 
--- the groups of categories above are those of the records behind
-back_groups : (c : Text) (ps : List PoiRec) (categories : List Text) → AllByRecursion (λ d. text_cmp c d ≡ Less) categories
-    → flat_map (λ d. group d (of_category d ps)) categories ≡ flat_map (λ d. group d (of_category d (drop (run_of c ps) ps))) categories
-back_groups c ps [] all = refl
-back_groups c ps (d ∷ ds) all =
-    let rest : List PoiRec = drop (run_of c ps) ps in
-    ap (λ (xs : List PoiRec). group d xs ++ flat_map (λ k. group k (of_category k ps)) ds) (back_records c d ps all.0)
-    ∙ ap (λ (bytes : List ℕ). group d (of_category d rest) ++ bytes) (back_groups c ps ds all.1)
-
 -- what stands behind the front is above it
 behind_front : (c : Text) (ps : List PoiRec) → AllByRecursion (λ p. is_gt (text_cmp c p.category) ≡ false) ps → AreUp category_cmp ps → AreAbove c (drop (run_of c ps) ps)
 behind_front c [] up ups = tt
@@ -204,22 +205,43 @@ behind_front c (p ∷ ps) up ups = one (ties c p.category) refl (behind_front c 
 pub run_front : (p : PoiRec) (ps : List PoiRec) → run_of p.category (p ∷ ps) ≡ suc (run_of p.category ps)
 run_front p ps = rw (itself p.category) refl
 
+module _ {B : Type 0} (make : Text → List PoiRec → List B) where
+  -- the groups of categories above are those of the records behind
+  back_groups : (c : Text) (ps : List PoiRec) (categories : List Text) → AllByRecursion (λ d. text_cmp c d ≡ Less) categories
+      → flat_map (λ d. make d (of_category d ps)) categories ≡ flat_map (λ d. make d (of_category d (drop (run_of c ps) ps))) categories
+  back_groups c ps [] all = refl
+  back_groups c ps (d ∷ ds) all =
+      let rest : List PoiRec = drop (run_of c ps) ps in
+      ap (λ (xs : List PoiRec). make d xs ++ flat_map (λ k. make k (of_category k ps)) ds) (back_records c d ps all.0)
+      ∙ ap (λ (made : List B). make d (of_category d rest) ++ made) (back_groups c ps ds all.1)
+
+  -- what the first category makes, and what those of the records behind make
+  pub first_made : (p : PoiRec) (ps : List PoiRec) → AreUp category_cmp (p ∷ ps)
+      → by_groups make (p ∷ ps) ≡ make p.category (take (run_of p.category (p ∷ ps)) (p ∷ ps)) ++ by_groups make (drop (run_of p.category (p ∷ ps)) (p ∷ ps))
+  first_made p ps up =
+      let c : Text = p.category in
+      let all : List PoiRec = p ∷ ps in
+      let rest : List PoiRec = drop (run_of c all) all in
+      let here : drop (run_of c ps) ps ≡ rest = ap (λ (n : ℕ). drop n all) (sym (run_front p ps)) in
+      let self : is_gt (text_cmp c c) ≡ false = ap is_gt (itself c) in
+      ap (flat_map (λ d. make d (of_category d all))) (first_category p ps up ∙ ap (λ (qs : List PoiRec). c ∷ categories_of qs) here)
+      ∙ ap (λ (xs : List PoiRec). make c xs ++ flat_map (λ d. make d (of_category d all)) (categories_of rest)) (front_records c all (self, up.0) up)
+      ∙ ap (λ (made : List B). make c (take (run_of c all) all) ++ made) (back_groups c all (categories_of rest) (categories_above c rest (behind_front c all (self, up.0) up)))
+
 -- the first category's group, and those of the records behind
 pub first_group : (p : PoiRec) (ps : List PoiRec) → AreUp category_cmp (p ∷ ps)
     → packed_pois (p ∷ ps) ≡ group p.category (take (run_of p.category (p ∷ ps)) (p ∷ ps)) ++ packed_pois (drop (run_of p.category (p ∷ ps)) (p ∷ ps))
 unfolding packed_pois
-first_group p ps up =
-    let c : Text = p.category in
-    let all : List PoiRec = p ∷ ps in
-    let rest : List PoiRec = drop (run_of c all) all in
-    let here : drop (run_of c ps) ps ≡ rest = ap (λ (n : ℕ). drop n all) (sym (run_front p ps)) in
-    let self : is_gt (text_cmp c c) ≡ false = ap is_gt (itself c) in
-    ap (flat_map (λ d. group d (of_category d all))) (first_category p ps up ∙ ap (λ (qs : List PoiRec). c ∷ categories_of qs) here)
-    ∙ ap (λ (xs : List PoiRec). group c xs ++ flat_map (λ d. group d (of_category d all)) (categories_of rest)) (front_records c all (self, up.0) up)
-    ∙ ap (λ (bytes : List ℕ). group c (take (run_of c all) all) ++ bytes) (back_groups c all (categories_of rest) (categories_above c rest (behind_front c all (self, up.0) up)))
+first_group p ps up = first_made group p ps up
 
 -- what is in order is so from any index on
 pub up_behind : (n : ℕ) (ps : List PoiRec) → AreUp category_cmp ps → AreUp category_cmp (drop n ps)
 up_behind zero ps up = up
 up_behind (suc n) [] up = tt
 up_behind (suc n) (p ∷ ps) up = up_behind n ps up.1
+
+-- a run is cut off
+pub behind_fewer : (n : ℕ) (p : PoiRec) (ps : List PoiRec) → length (p ∷ ps) ≤ suc n → length (drop (run_of p.category (p ∷ ps)) (p ∷ ps)) ≤ n
+behind_fewer n p ps few =
+    let short = length-drop (run_of p.category ps) ps in
+    subst (λ (k : ℕ). length (drop k (p ∷ ps)) ≤ n) (sym (run_front p ps)) (omega (arith, short))

@@ -1,5 +1,5 @@
 -- What a stable sort by category leaves.
-use Rattle.std.proofs.Common.{◌≡◌, ℕ, ◌+◌, ◌-◌, ◌≤◌, zero, suc, Bool, true, false, cond, not, List, [], ◌∷◌, ◌++◌, length, map, take, drop, get_or, refl, sym, ap, subst, ◌∙◌, arith, append_assoc}
+use Rattle.std.proofs.Common.{◌≡◌, ℕ, ◌≤◌, zero, suc, Bool, true, false, cond, not, List, [], ◌∷◌, ◌++◌, length, take, drop, get_or, refl, sym, ap, subst, ◌∙◌, arith, append_assoc}
 use Rattle.std.specs.Prelude.{filter, ◌&&◌, pos}
 use Rattle.std.specs.List.{AllByRecursion}
 use Rattle.std.specs.List.Sorted.{IsPermutation, IsSorted, ties}
@@ -17,7 +17,7 @@ use Rattle.text_table.specs.Tables.{text_cmp}
 use Rattle.boxed_write.specs.Classes.{held}
 use Rattle.boxed_write.proofs.Sorting.{AreUp, all_moved, up_from_sorted, up_image}
 use Rattle.poi_section.specs.Packed.{category_cmp, group, of_category, packed_pois, run_of}
-use Rattle.poi_section.proofs.Groups.{alike_packed, first_group, run_front, up_behind}
+use Rattle.poi_section.proofs.Groups.{alike_packed, first_group, run_front}
 
 -- the category of one comes before that of another
 abbrev pub comes_before : Bor PoiRec → Bor PoiRec → Bool

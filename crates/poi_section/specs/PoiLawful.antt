@@ -1,14 +1,12 @@
 -- Points of interest of one category as a class that keeps the laws of sections: what it shows of one record.
-use Rattle.std.proofs.Common.{◌≡◌, ◌≢◌, ℕ, zero, suc, ◌/◌, ◌^◌, ◌<◌, ◌≤◌, Bool, true, false, List, [], ◌∷◌, ◌++◌, length, map, Option, Some, None, refl, sym, ap, subst, ◌∙◌, arith}
-use Rattle.std.specs.Prelude.{flat_map, nat_le, ◌==◌, ◌&&◌, ◌||◌, not, slice_get, unwrap_or, pos, negsuc, ℤ, int_le, unsigned_abs, IsUtf8, IsTrue}
-use Rattle.std.specs.List.{AllByRecursion, list_all}
-use Rattle.std.specs.Option.{option_map}
+use Rattle.std.proofs.Common.{◌≡◌, ◌≢◌, ℕ, zero, suc, ◌/◌, ◌^◌, ◌<◌, ◌≤◌, true, false, List, [], ◌∷◌, ◌++◌, length, map, Option, Some, None, refl, sym, ap, subst, ◌∙◌, arith}
+use Rattle.std.specs.Prelude.{flat_map, nat_le, ◌==◌, ◌&&◌, ◌||◌, not, IsTrue}
+use Rattle.std.specs.List.{list_all}
 use Rattle.std.specs.Ordering.{nat_cmp, ordering_then, is_gt}
 use Rattle.std.specs.declared.cmp.Ordering.{Ordering}
-use Rattle.std.proofs.lemmas.Bool.{and_from, and_parts, or_left, le-leb, eq-eqb, eqb-true, leb-true}
+use Rattle.std.proofs.lemmas.Bool.{and_from, and_parts, or_left, le-leb, eq-eqb}
 use Rattle.std.proofs.lemmas.Bool.Decides.{nat_tests}
-use Rattle.std.proofs.lemmas.List.{append-nil}
-use Rattle.std.proofs.lemmas.Str.{IsUtf8-from_is_utf8, IsUtf8-nil}
+use Rattle.std.proofs.lemmas.List.{append-nil, length-map}
 use Rattle.live_model.specs.declared.ids.Kind.{Kind}
 use Rattle.live_model.specs.declared.ids.Kind.TheVariants.{Node, Way, Relation}
 use Rattle.live_model.specs.declared.points.Point.{Point}
@@ -16,14 +14,14 @@ use Rattle.live_model.specs.declared.points.Rect.{Rect}
 use Rattle.live_model.specs.declared.rules.Rule.{Rule}
 use Rattle.live_model.specs.declared.records.PoiRec.{PoiRec}
 use Rattle.live_model.specs.Geometry.{box_of_point}
-use Rattle.live_model.specs.Ids.{Id, IsId, ordinal, rank}
+use Rattle.live_model.specs.Ids.{Id, ordinal, rank}
 use Rattle.live_model.specs.Points.{IsInGrid}
 use Rattle.live_model.specs.Records.{poi_cmp}
 use Rattle.live_model.specs.Rules.{is_category}
 use Rattle.live_model.specs.Fits.{FitsPoi, IsNodeOrWay}
 use Rattle.obf_wire.specs.Varint.{varint}
-use Rattle.obf_wire.specs.Fields.{field_spelling, number_field, short_field}
-use Rattle.coord_delta.specs.Steps.{Place, places, place_of, point_list}
+use Rattle.obf_wire.specs.Fields.{field_spelling, number_field}
+use Rattle.coord_delta.specs.Steps.{Place, places, place_of}
 use Rattle.coord_delta.proofs.PlaceLists.{numbers_from, numbers_lead, points_are_numbers, numbers_fit, numbers_whole}
 use Rattle.box_tree.specs.Trees.{Holds}
 use Rattle.file_grammar.specs.declared.parts.Boxed.TheVariants.{Poi}
@@ -31,14 +29,14 @@ use Rattle.file_grammar.specs.declared.parts.Part.TheVariants.{Record}
 use Rattle.file_grammar.specs.Facts.{AllHold}
 use Rattle.file_grammar.specs.Sections.{Placed, Entry, Block, text_of, object_of, object_kind}
 use Rattle.file_grammar.specs.BoxRules.{Beside, follows, is_node, is_way, is_ordinal, is_on_grid, holds_place}
-use Rattle.file_grammar.specs.MapRules.{point_from}
 use Rattle.file_grammar.specs.RecordRules.{ordinals_rise, is_node_or_way, is_one_location, only_point}
 use Rattle.file_grammar.specs.PoiRules.{PoiFields, poi_fields, poi_facts, poi_facts_of, poi_boxing, poi_record_of, poi_read}
 use Rattle.boxed_write.specs.Packed.{text_number}
 use Rattle.boxed_laws.specs.Bare.{Bare, no_more, a_number, some_numbers, bytes_of, AreFormed}
-use Rattle.boxed_laws.specs.Classes.{BoxedClass, IsBox, StandsIn, Precedes, IsLawful, PassUtf8, without_marks, entry_of}
-use Rattle.boxed_laws.proofs.BoxesAround.{HoldsPoint, grid_test, grid_of, points_inside, points_of}
-use Rattle.boxed_laws.proofs.ObjectNumbers.{least_rank, ordinal_is, kind_of_ordinal, object_again, object_good}
+use Rattle.boxed_laws.specs.Classes.{BoxedClass, StandsIn, Precedes, IsLawful, PassUtf8, without_marks, entry_of}
+use Rattle.boxed_laws.proofs.BoxesAround.{grid_test, grid_of, points_inside, points_of}
+use Rattle.boxed_laws.proofs.ObjectNumbers.{ordinal_is, kind_of_ordinal, object_again, object_good}
+use Rattle.boxed_laws.proofs.RecordParts.{name_utf8, point_in_grid, small_ordinal}
 use Rattle.poi_section.specs.Packed.{poi_packing, poi_fields as packed_fields}
 
 -- ---- the class
@@ -71,12 +69,6 @@ spelled texts p =
     ap (λ (t : List ℕ). number_field 2 (text_number texts p.name) ++ t)
     (append-nil (field_spelling 26 (length ns) ns)
     ∙ ap (λ (payload : List ℕ). field_spelling 26 (length payload) payload) (sym (points_are_numbers origin (p.point ∷ []))))
-
-small_ordinal : (o : Id) → IsId o → ordinal o < 2 ^ 64
-small_ordinal o good = let kind = kind_of_ordinal o good in let least = (least_rank o.kind).0 in small (ordinal o) (rank o.kind) kind least
-  where
-    small : (n r : ℕ) → n / 2 ^ 50 ≡ r → r ≤ 2 → n < 2 ^ 64
-    small n r e le = omega arith
 
 formed : (category : List ℕ) (rules : List Rule) (texts : List (List ℕ)) (p : PoiRec) → length texts < 2 ^ 64 → StandsIn (poi_class category) (FitsCategory category) rules texts p → AreFormed (Record Poi) (Some 8) (poi_bare texts p)
 formed category rules texts p short s =
@@ -118,10 +110,11 @@ rises_after category texts (Some e) at number before p is b =
     let up = not_below b.other p b.up in
     subst (λ (x : Entry). ordinals_rise x (the_entry category texts at number before p) ≡ true) (sym b.is) (rises_to b.ordinal number (omega (arith, b.ordinal_is, is, up)))
 
-good : (category : List ℕ) (rules : List Rule) (texts : List (List ℕ)) (block : Block) (prev : Option Entry) (at number before : ℕ) (p : PoiRec) → length block.texts ≡ length texts → number ≡ ordinal p.id
+good : (category : List ℕ) (rules : List Rule) (texts : List (List ℕ)) (block : Block) (prev : Option Entry) (at number before : ℕ) (p : PoiRec) → map (λ (t : Placed (List ℕ)). t.value) block.texts ≡ texts → number ≡ ordinal p.id
     → StandsIn (poi_class category) (FitsCategory category) rules texts p → Precedes (poi_class category) texts p prev → AllHold (poi_facts (without_marks rules) block (prev, the_entry category texts at number before p))
-good category rules texts block prev at number before p few is s b =
+good category rules texts block prev at number before p same is s b =
     let f = s.suits_rules.fits in
+    let few : length block.texts ≡ length texts = sym (length-map block.texts (λ (t : Placed (List ℕ)). t.value)) ∙ ap length same in
     let object : (is_ordinal number && is_node_or_way number) ≡ true =
     ap (λ (n : ℕ). is_ordinal n && is_node_or_way n) is
     ∙ and_from (is_ordinal (ordinal p.id)) (is_node_or_way (ordinal p.id)) (ordinal_is p.id f.id) (kind_is p.id.kind (ordinal p.id) f.kind (kind_of_ordinal p.id f.id)) in
@@ -150,24 +143,6 @@ again category rules texts block at number before p same is s =
     ∙ ap (λ (q : Point). made p.id p.category p.name q) point
 
 -- ---- what sound entries stand for
-
-text_utf8 : (texts : List (Placed (List ℕ))) (k : ℕ) → PassUtf8 texts → IsUtf8 (unwrap_or (option_map (λ t. t.value) (slice_get texts k)) [])
-text_utf8 [] k all = IsUtf8-nil
-text_utf8 (t ∷ ts) zero all = IsUtf8-from_is_utf8 t.value all.0
-text_utf8 (t ∷ ts) (suc k) all = text_utf8 ts k all.1
-
-name_utf8 : (texts : List (Placed (List ℕ))) (n : ℕ) → PassUtf8 texts → IsUtf8 (text_of texts n)
-name_utf8 texts zero all = IsUtf8-nil
-name_utf8 texts (suc k) all = text_utf8 texts k all
-
-edge_of : (most : ℕ) (z : ℤ) → (int_le (pos 0) z && int_le z (pos most)) ≡ true → unsigned_abs z ≤ most
-edge_of most (pos n) e = leb-true n most (and_parts (int_le (pos 0) (pos n)) (int_le (pos n) (pos most)) e).1
-edge_of most (negsuc n) e = absurd (cc)
-
-point_in_grid : (p : Place) → is_on_grid p ≡ true → IsInGrid (point_from p)
-point_in_grid (x, y) e =
-    let parts = and_parts (int_le (pos 0) x && int_le x (pos 3600000000)) (int_le (pos 0) y && int_le y (pos 1800000000)) e in
-    (edge_of 3600000000 x parts.0, edge_of 1800000000 y parts.1)
 
 -- the only one of places that are on the grid
 only_in_grid : (ps : List Place) → is_one_location ps ≡ true → IsInGrid (only_point ps)

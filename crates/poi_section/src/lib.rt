@@ -7,8 +7,16 @@
 //! The layer above may rely on this: `write` appends exactly the packed bytes, or nothing.
 #![tactic(auto)]
 
+mod checking;
 mod class;
+mod entries;
+mod laws;
+mod record_rules;
 mod writing;
 
 pub use class::PoiClass;
+pub use laws::{
+    any_order_packs_the_same, grouping_keeps_each_record, packed_categories_are_good,
+    sound_categories_fit,
+};
 pub use writing::write;

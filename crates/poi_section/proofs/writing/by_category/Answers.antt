@@ -1,6 +1,5 @@
-use Rattle.std.proofs.Common.{◌≡◌, rules, ◌∙◌, ap, subst, sym}
+use Rattle.std.proofs.Common.{rules, ◌∙◌, ap, subst}
 use Rattle.std.specs.Prelude.{filter}
-use Rattle.std.specs.List.{AllByRecursion}
 use Rattle.std.specs.List.Sorted.{ties, IsPermutation}
 use Rattle.std.proofs.lemmas.Cmp.{nat_list_cmp_total}
 use Rattle.std.proofs.lemmas.List.MinMax.{ranks_by}
