@@ -3,3 +3,4 @@ mod RuleRows
 mod FileRows
 mod PackedSectionRows
 mod PackedFileRows
+mod PoiRows
