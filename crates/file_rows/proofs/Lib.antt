@@ -5,3 +5,4 @@ mod FileRows
 mod PackedSectionRows
 mod PackedFileRows
 mod AddressRows
+mod PoiRows

@@ -1,0 +1,6 @@
+pub mod Groups
+pub mod Ordered
+pub mod RecordShape
+pub mod RecordFacts
+pub mod PoiRead
+pub mod PackedPois

@@ -1,0 +1,7 @@
+pub mod EntryFacts
+pub mod Fields
+pub mod Laws
+pub mod Packed
+pub mod PoiOrder
+pub mod PoiLawful
+pub mod PoiReads
