@@ -59,10 +59,7 @@ fn checked(alloc: Global, fields: &mut Fields<'_>, out: &mut Answer) -> Result<(
         return Err(RowError::BadRow);
     };
     let marks = Marks::Only(&[mark]);
-    put_end(
-        &read(alloc, window, &rules, marks),
-        out,
-    )
+    put_end(&read(alloc, window, &rules, marks), out)
 }
 
 /// A section of map records.
