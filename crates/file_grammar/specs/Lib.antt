@@ -3,8 +3,10 @@ pub mod StatedTables
 pub mod Messages
 pub mod Readings
 pub mod Walks
+pub mod Turns
 pub mod Facts
 pub mod Sections
 pub mod BoxRules
+pub mod Listed
 pub mod MapRules
 pub mod Files
