@@ -4,6 +4,7 @@ pub mod Messages
 pub mod Readings
 pub mod Walks
 pub mod Turns
+pub mod FormBreaks
 pub mod Facts
 pub mod Sections
 pub mod BoxRules

@@ -1,6 +1,7 @@
 //! What the form of messages owes its readers beyond one message: laws, with nothing to run.
 
 ghost use Rattle.file_grammar.specs.Files.{FileLaw, HeadLaw, HourLaw, OnePartsLaw, PartsLaw};
+ghost use Rattle.file_grammar.specs.FormBreaks.{FormBreakLaw};
 ghost use Rattle.file_grammar.specs.Readings.{ReadingLaw};
 ghost use Rattle.file_grammar.specs.Turns.{BreakLaw, ForwardLaw, NumbersLaw, TurnLaw};
 
@@ -19,6 +20,12 @@ pub fn messages_are_read_field_by_field()
     ensures broken { BreakLaw }
     ensures forward { ForwardLaw }
     ensures numbers { NumbersLaw }
+{}
+
+/// That the break of a message has its cause where it is told. Of bytes in memory, all fields before it are of good form, one after
+/// the other, and there the next field stops by one of six causes, or the number or the list in it breaks.
+pub fn breaks_have_their_causes()
+    ensures { FormBreakLaw }
 {}
 
 /// That just a file has no break, and that it has its parts once. Bytes in memory have no break exactly where they
