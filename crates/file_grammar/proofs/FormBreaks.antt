@@ -1,20 +1,20 @@
 -- The break that is read of a message has its cause there.
-use Rattle.std.proofs.Common.{◌≡◌, ℕ, zero, suc, ◌-◌, ◌<◌, List, Option, Some, None, Result, Ok, Err, refl, sym, ap, ◌∙◌, arith}
+use Rattle.std.proofs.Common.{◌≡◌, ℕ, zero, suc, ◌-◌, ◌<◌, Option, Some, None, Result, Ok, Err, refl, sym, ap, ◌∙◌, arith}
 use Rattle.obf_wire.specs.declared.breaks.WireBreak.{WireBreak}
 use Rattle.obf_wire.specs.declared.field.Field.{Field}
 use Rattle.obf_wire.specs.declared.file.FileBreak.{FileBreak}
 use Rattle.obf_wire.specs.Kinds.{file_break}
 use Rattle.obf_wire.specs.Fields.{Window, IsWindow, behind, field_at}
-use Rattle.obf_wire.proofs.NextField.{IsBytes, field_found}
+use Rattle.obf_wire.proofs.NextField.{IsBytes, field_found, field_only}
 use Rattle.file_grammar.specs.declared.parts.Content.{Content}
 use Rattle.file_grammar.specs.declared.parts.Content.TheVariants.{Number, Version, Bytes, Numbers, Message}
 use Rattle.file_grammar.specs.declared.parts.Part.{Part}
-use Rattle.file_grammar.specs.Messages.{Fields, ends}
+use Rattle.file_grammar.specs.Messages.{Fields, has_message}
 use Rattle.file_grammar.specs.Readings.{◌>>=◌, continued, filled, message_at, message_from, of_file, payload_of}
 use Rattle.file_grammar.specs.Tables.{content_of, may_end, next_keys}
 use Rattle.file_grammar.specs.Walks.{IsInside}
-use Rattle.file_grammar.specs.FormBreaks.{BreaksSo, Comes, FormBreakLaw, IsPlain, holds_none, past, stops, within}
-use Rattle.file_grammar.proofs.FieldBreaks.{field_breaks}
+use Rattle.file_grammar.specs.FormBreaks.{BreaksSo, Comes, FormBreakLaw, IsPlain, Leads, Way, holds_none, past, stops, within}
+use Rattle.file_grammar.proofs.FieldBreaks.{field_breaks, field_stops}
 use Rattle.file_grammar.proofs.Fuel.{turn}
 use Rattle.file_grammar.proofs.Inside.{field_inside}
 use Rattle.file_grammar.proofs.Ranges.{bytes_in}
@@ -85,5 +85,41 @@ breaks_by zero part last w b window fits less e = absurd (omega arith)
 breaks_by (suc m) part last w b window fits less e =
     next_breaks m (breaks_by m) part last w b window fits less (field_at w (next_keys part last) (may_end part last)) refl (sym (turn part last w window) ∙ e)
 
+-- ---- the other way: where a way leads to a break, it is read
+
+continued_err : (part : Part) (last : Option ℕ) (w : Window) (f : Field) (b : FileBreak) → IsWindow w → Comes part last w f
+    → (filled message_at w.bytes f (content_of part f.key) >>= λ held. message_from part (Some f.key) (behind w (Some f)) >>= λ others. Ok (held others)) ≡ fields_err b → message_from part last w ≡ fields_err b
+continued_err part last w f b window comes e =
+    let next = field_only w (next_keys part last) (may_end part last) f window comes in
+    turn part last w window ∙ ap (λ (r : Result (Option Field) WireBreak). of_file r >>= continued message_from part w) next ∙ e
+
+payload_window : (part : Part) (last : Option ℕ) (w : Window) (f : Field) → IsWindow w → Comes part last w f → IsWindow (payload_of w.bytes f)
+payload_window part last w f window comes = record { ordered = omega (arith, comes.payload); within = omega (arith, comes.inside.1, window.within) }
+
+rest_window : (part : Part) (last : Option ℕ) (w : Window) (f : Field) → IsWindow w → Comes part last w f → IsWindow (behind w (Some f))
+rest_window part last w f window comes = record { ordered = comes.inside.1; within = window.within }
+
+held_in : (f : Fields → Fields → Fields) (r : Result Fields FileBreak) (b : FileBreak) → r ≡ fields_err b → (r >>= λ x. Ok (f x)) ≡ held_err b
+held_in f r b e = rw e refl
+
+leads_read : (way : Way) (part : Part) (last : Option ℕ) (w : Window) (b : FileBreak) → IsWindow w → Leads part last w b way → message_from part last w ≡ fields_err b
+leads_read (stops x) part last w b window l =
+    let none = field_stops w (next_keys part last) (may_end part last) x window l.0 in
+    turn part last w window ∙ ap (λ (r : Result (Option Field) WireBreak). of_file r >>= continued message_from part w) none ∙ ap fields_err (sym l.1)
+leads_read (holds_none f) part last w b window l =
+    continued_err part last w f b window l.0 (ap (λ (r : Result (Fields → Fields) FileBreak). r >>= λ held. message_from part (Some f.key) (behind w (Some f)) >>= λ others. Ok (held others)) l.2)
+leads_read (within f way) part last w b window l =
+    let inner = leads_read way l.1.0 None (payload_of w.bytes f) b (payload_window part last w f window l.0) l.1.2 in
+    let held : filled message_at w.bytes f (content_of part f.key) ≡ held_err b = ap (filled message_at w.bytes f) l.1.1 ∙ held_in (has_message f.at f.key) (message_at l.1.0 (payload_of w.bytes f)) b inner in
+    continued_err part last w f b window l.0 (ap (λ (r : Result (Fields → Fields) FileBreak). r >>= λ held. message_from part (Some f.key) (behind w (Some f)) >>= λ others. Ok (held others)) held)
+leads_read (past f way) part last w b window l =
+    let rest = leads_read way part (Some f.key) (behind w (Some f)) b (rest_window part last w f window l.0) l.2 in
+    continued_err part last w f b window l.0
+    (ap (λ (r : Result (Fields → Fields) FileBreak). r >>= λ held. message_from part (Some f.key) (behind w (Some f)) >>= λ others. Ok (held others)) l.1.is
+    ∙ ap (λ (r : Result Fields FileBreak). r >>= λ others. Ok (l.1.held others)) rest)
+
 pub form_breaks : FormBreakLaw
-form_breaks part w b memory e = breaks_by (suc (room w)) part None w b memory.window (bytes_in w.bytes memory.bytes) (omega arith) e
+form_breaks part w b memory = (
+  λ e. breaks_by (suc (room w)) part None w b memory.window (bytes_in w.bytes memory.bytes) (omega arith) e,
+  λ so. leads_read so.way part None w b memory.window so.leads,
+)

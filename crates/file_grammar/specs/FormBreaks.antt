@@ -1,5 +1,5 @@
 -- How the bytes of a message break, cause by cause: fields of good form, each after the other, and then what is wrong.
-use Rattle.std.specs.Prelude.{◌≡◌, ◌≢◌, ◌⊎◌, ◌<◌, ◌-◌, ◌+◌, ◌%◌, ℕ, List, [], Bool, true, false, slice_range, Option, Some, None, Ok, Err}
+use Rattle.std.specs.Prelude.{◌≡◌, ◌≢◌, ◌↔◌, ◌⊎◌, ◌<◌, ◌-◌, ◌%◌, ℕ, List, [], Bool, true, false, slice_range, Option, Some, None, Ok, Err}
 use Rattle.obf_wire.specs.declared.breaks.WireBreak.{WireBreak}
 use Rattle.obf_wire.specs.declared.field.Field.{Field}
 use Rattle.obf_wire.specs.declared.file.FileBreak.{FileBreak}
@@ -110,6 +110,6 @@ pub record BreaksSo (part : Part) (last : Option ℕ) (w : Window) (b : FileBrea
   pub way : Way
   pub leads : Leads part last w b way
 
--- Law: the break that is told of a message has its cause there, and all fields before it are of good form.
+-- Law: a break is told of a message exactly where it has a cause, and all fields before it are of good form.
 abbrev pub FormBreakLaw : Type 0
-FormBreakLaw = (part : Part) (w : Window) (b : FileBreak) → IsInMemory w → message_at part w ≡ Err b → BreaksSo part None w b
+FormBreakLaw = (part : Part) (w : Window) (b : FileBreak) → IsInMemory w → (message_at part w ≡ Err b) ↔ BreaksSo part None w b

@@ -22,8 +22,8 @@ pub fn messages_are_read_field_by_field()
     ensures numbers { NumbersLaw }
 {}
 
-/// That the break of a message has its cause where it is told. Of bytes in memory, all fields before it are of good form, one after
-/// the other, and there the next field stops by one of six causes, or the number or the list in it breaks.
+/// That a break is told of a message exactly where it has a cause. Of bytes in memory, all fields before it are of good form, one
+/// after the other, and there the next field stops by one of six causes, or the number or the list in it breaks.
 pub fn breaks_have_their_causes()
     ensures { FormBreakLaw }
 {}
