@@ -1,4 +1,3 @@
-pub mod Listed
 pub mod Keeping
 pub mod Points
 pub mod Blocks

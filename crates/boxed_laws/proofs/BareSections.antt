@@ -25,7 +25,8 @@ use Rattle.boxed_write.proofs.Sorting.{AreUp, all_moved, all_more}
 use Rattle.boxed_write.proofs.UsedTexts.{all_named}
 use Rattle.boxed_laws.specs.Bare.{Bare, no_more, a_message, bytes_of, stood, AreFormed}
 use Rattle.boxed_laws.specs.Classes.{BoxedClass, IsLawful, StandsIn, HasNumber, IsBox, without_marks}
-use Rattle.boxed_laws.specs.Laws.{IsSection, PackedLaw, records_of}
+use Rattle.file_grammar.specs.Listed.{block_records}
+use Rattle.boxed_laws.specs.Laws.{IsSection, PackedLaw}
 use Rattle.boxed_laws.proofs.BareFields.{spelled, formed}
 use Rattle.boxed_laws.proofs.KeptItems.{moved_sorted, up_in_order}
 use Rattle.boxed_laws.proofs.BareBlocks.{bare_records, bare_texts, bare_block, bare_blocks, block_bytes, blocks_bytes, IsBlockFormed, blocks_formed}
@@ -183,14 +184,14 @@ module _ {A : Type 0} (c : BoxedClass A) (suits : List Rule → A → Type 0) (l
     least_all [] = tt
     least_all (r ∷ rs) = (omega arith, least_all rs)
 
-    block_again : (at : ℕ) (b : List A) → IsPackedBlock rules b → records_of c (the_block at b) ≡ b
+    block_again : (at : ℕ) (b : List A) → IsPackedBlock rules b → block_records c.reads (the_block at b) ≡ b
     block_again at b p =
         records_again c suits laws rules (texts_of c.packing b) (the_block at b) (texts_again (texts_of c.packing b) (texts_at at b)) b 0 0 (records_at at b) refl (least_all b) p.up (block_stands rules b p)
 
-    blocks_again : (bs : List (List A)) (at : ℕ) → AllByRecursion (IsPackedBlock rules) bs → flat_map (records_of c) (the_blocks at bs) ≡ flat_map (λ block. block) bs
+    blocks_again : (bs : List (List A)) (at : ℕ) → AllByRecursion (IsPackedBlock rules) bs → flat_map (block_records c.reads) (the_blocks at bs) ≡ flat_map (λ block. block) bs
     blocks_again [] at all = refl
     blocks_again (b ∷ bs) at all =
-        ap (λ (ms : List A). ms ++ flat_map (records_of c) (the_blocks (behind_at at b) bs)) (block_again at b all.0)
+        ap (λ (ms : List A). ms ++ flat_map (block_records c.reads) (the_blocks (behind_at at b) bs)) (block_again at b all.0)
         ∙ ap (λ (ms : List A). b ++ ms) (blocks_again bs (behind_at at b) all.1)
 
   -- ---- how long they are

@@ -9,7 +9,8 @@ use Rattle.file_grammar.specs.Facts.{Fact, AllHold}
 use Rattle.file_grammar.specs.Sections.{Placed, Entry, Block, section_in}
 use Rattle.file_grammar.specs.BoxRules.{Beside, with_before, follows, texts_rise, text_fact, block_facts, section_facts}
 use Rattle.boxed_laws.specs.Classes.{BoxedClass, IsLawful, PassUtf8}
-use Rattle.boxed_laws.specs.Laws.{FittingLaw, records_of}
+use Rattle.file_grammar.specs.Listed.{block_records}
+use Rattle.boxed_laws.specs.Laws.{FittingLaw}
 use Rattle.boxed_laws.proofs.BlockTexts.{all_join}
 
 module _ {A : Type 0} (P : A → Type 0) where
@@ -38,18 +39,18 @@ module _ {A : Type 0} (c : BoxedClass A) (suits : List Rule → A → Type 0) (l
     entries_suit block es (Some e) utf8 (all_behind Holds (c.boxing.facts beside block (prev, e)) (flat_map (c.boxing.facts beside block) (with_before (Some e) es)) all),
   )
 
-  block_suits : (block : Block) → AllHold (block_facts c.boxing beside block) → AllByRecursion (suits beside.rules) (records_of c block)
+  block_suits : (block : Block) → AllHold (block_facts c.boxing beside block) → AllByRecursion (suits beside.rules) (block_records c.reads block)
   block_suits block all =
       let texts : List Fact = map text_fact (with_before None block.texts) in
       let entries : List Fact = flat_map (c.boxing.facts beside block) (with_before None block.entries) in
       entries_suit block block.entries None (texts_utf8 block.texts None (all_before Holds texts entries all.1)) (all_behind Holds texts entries all.1)
 
-  blocks_suit : (blocks : List Block) → AllHold (flat_map (block_facts c.boxing beside) blocks) → AllByRecursion (suits beside.rules) (flat_map (records_of c) blocks)
+  blocks_suit : (blocks : List Block) → AllHold (flat_map (block_facts c.boxing beside) blocks) → AllByRecursion (suits beside.rules) (flat_map (block_records c.reads) blocks)
   blocks_suit [] all = tt
   blocks_suit (b ∷ bs) all =
       let front : List Fact = block_facts c.boxing beside b in
       let rest : List Fact = flat_map (block_facts c.boxing beside) bs in
-      all_join (suits beside.rules) (records_of c b) (flat_map (records_of c) bs) (block_suits b (all_before Holds front rest all)) (blocks_suit bs (all_behind Holds front rest all))
+      all_join (suits beside.rules) (block_records c.reads b) (flat_map (block_records c.reads) bs) (block_suits b (all_before Holds front rest all)) (blocks_suit bs (all_behind Holds front rest all))
 
 pub fitting : {A : Type 0} (c : BoxedClass A) (suits : List Rule → A → Type 0) → IsLawful c suits → FittingLaw c suits
 unfolding section_facts

@@ -1,15 +1,12 @@
 -- Laws of packed sections of any class.
-use Rattle.std.specs.Prelude.{◌≡◌, ◌<◌, ◌^◌, List, flat_map, map, length, None, Ok}
+use Rattle.std.specs.Prelude.{◌≡◌, ◌<◌, ◌^◌, List, flat_map, length}
 use Rattle.std.specs.List.{AllByRecursion}
 use Rattle.std.specs.List.Sorted.{IsPermutation}
 use Rattle.live_model.specs.declared.rules.Rule.{Rule}
 use Rattle.obf_wire.specs.Fields.{Window, IsWindow, left_of}
-use Rattle.file_grammar.specs.Messages.{Fields, IsMessage}
-use Rattle.file_grammar.specs.Readings.{message_at, IsInMemory}
-use Rattle.file_grammar.specs.Facts.{AllHold, first_failing}
-use Rattle.file_grammar.specs.Sections.{Block, Section, section_in}
-use Rattle.file_grammar.specs.BoxRules.{Beside, section_facts}
-use Rattle.file_grammar.specs.declared.parts.Part.TheVariants.{Boxes}
+use Rattle.file_grammar.specs.Readings.{IsInMemory}
+use Rattle.file_grammar.specs.BoxRules.{Beside}
+use Rattle.file_grammar.specs.Listed.{IsSectionOf, ReadsAs as ReadsAsOf}
 use Rattle.boxed_write.specs.Packed.{Packing, blocks_of, packed}
 use Rattle.boxed_laws.specs.Classes.{BoxedClass, without_marks}
 
@@ -26,27 +23,13 @@ abbrev pub AnyOrderLaw : {A : Type 0} → Packing A → (A → Type 0) → Type 
 AnyOrderLaw {A} packing fits = (a b : List A) → AllByRecursion fits a → IsPermutation a b → packed packing a ≡ packed packing b
 
 module _ {A : Type 0} (c : BoxedClass A) where
-  -- the records of a section in the order of the file
-  abbrev pub records_of : Block → List A
-  records_of block = map (c.reads block) block.entries
+  -- the bytes of the window are a section of these records
+  abbrev pub IsSection : Beside → Window → List A → Type 0
+  IsSection beside w records = IsSectionOf c.class c.boxing c.reads beside w records
 
-  abbrev pub records_in : Section → List A
-  records_in section = flat_map records_of section.blocks
-
-  -- the bytes of the window are a section of these records, in the order of its blocks, and every rule holds of it
-  pub record IsSection (beside : Beside) (w : Window) (records : List A) : Type 0 where
-    pub fields : Fields
-    pub form : IsMessage (Boxes c.class) w fields
-    pub sound : AllHold (section_facts c.boxing beside (section_in fields))
-    pub records_are : records ≡ records_in (section_in fields)
-
-  -- the bytes of the window are read, field by field, to a section in which no rule fails and which holds these records in the
-  -- order of its blocks
-  pub record ReadsAs (beside : Beside) (w : Window) (records : List A) : Type 0 where
-    pub fields : Fields
-    pub read : message_at (Boxes c.class) w ≡ Ok fields
-    pub sound : first_failing (section_facts c.boxing beside (section_in fields)) ≡ None
-    pub records_are : records_in (section_in fields) ≡ records
+  -- the bytes of the window are read to these records
+  abbrev pub ReadsAs : Beside → Window → List A → Type 0
+  ReadsAs beside w records = ReadsAsOf c.class c.boxing c.reads beside w records
 
   module _ (suits : List Rule → A → Type 0) where
     -- what is packed of records that suit the rules is a section of these records

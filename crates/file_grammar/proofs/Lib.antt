@@ -16,3 +16,5 @@ pub mod FileLaws
 pub mod Built
 pub mod StatedTables
 pub mod OneTable
+pub mod FieldBreaks
+pub mod FormBreaks

@@ -37,6 +37,16 @@ list_fuel (suc m) (suc n) w window lm ln =
     let i = number_inside w.bytes w.place w.end x next window.ordered window.within e in
     ap (λ r. r >>= λ ns. Ok (x ∷ ns)) (list_fuel m n (at_place w next) (record { ordered = i.1; within = window.within }) (omega (arith, i.0, i.1, lm)) (omega (arith, i.0, i.1, ln))))
 
+-- the numbers are the next one and those after it
+pub list_turn : (w : Window) → IsWindow w
+    → numbers_at w ≡ (if w.place == w.end then Ok [] else (of_file (varint_at w.bytes w.place w.end) >>= λ n. numbers_at (at_place w n.1) >>= λ ns. Ok (n.0 ∷ ns)))
+list_turn w window =
+    list_fuel (room w) (suc (room w)) w window (omega arith) (omega arith)
+    ∙ ap (λ r. if w.place == w.end then Ok [] else r)
+    (number_same (varint_at w.bytes w.place w.end) _ _ λ x next e.
+    let i = number_inside w.bytes w.place w.end x next window.ordered window.within e in
+    ap (λ r. r >>= λ ns. Ok (x ∷ ns)) (list_fuel (room w) (room (at_place w next)) (at_place w next) (record { ordered = i.1; within = window.within }) (omega (arith, i.0, i.1)) (omega arith)))
+
 -- how many numbers there are, where this was read of the first
 abbrev pub counted_on : ℕ → Window → Result (ℕ × ℕ) WireBreak → Result ℕ FileBreak
 counted_on count w (Err b) = Err (file_break b)

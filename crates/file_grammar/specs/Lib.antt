@@ -3,9 +3,12 @@ pub mod StatedTables
 pub mod Messages
 pub mod Readings
 pub mod Walks
+pub mod Turns
+pub mod FormBreaks
 pub mod Facts
 pub mod Sections
 pub mod BoxRules
+pub mod Listed
 pub mod MapRules
 pub mod RecordRules
 pub mod PoiRules

@@ -16,7 +16,10 @@ mod walk;
 
 pub use fields::FieldWalk;
 pub use first::{FirstBreak, one_first_break};
-pub use laws::{heads_are_their_numbers, readings_are_messages, unbroken_bytes_are_files};
+pub use laws::{
+    breaks_have_their_causes, heads_are_their_numbers, messages_are_read_field_by_field,
+    readings_are_messages, unbroken_bytes_are_files,
+};
 pub use parts::{Boxed, Content, Group, Part, Version};
 pub use rows::Row;
 pub use tables::tables_are_stated;

@@ -1,19 +1,19 @@
 -- Records as they are listed, block by block, and what has to hold of the parts of a section for that.
-use Rattle.std.specs.Prelude.{◌≡◌, ◌<◌, ◌≤◌, ◌+◌, ◌^◌, ℕ, List, [], length, map, true, None, Ok, IfSome, IsUtf8}
+use Rattle.std.specs.Prelude.{◌≡◌, ◌<◌, ◌+◌, ◌^◌, ℕ, List, [], map, true, Ok, IfSome, IsUtf8}
 use Rattle.std.specs.List.{AllByRecursion, list_all}
 use Rattle.std.specs.Option.{option_map_or}
 use denote.Ref.{Bor}
 use Rattle.live_model.specs.declared.records.MapRec.{MapRec}
-use Rattle.obf_wire.specs.Fields.{Window, IsWindow}
+use Rattle.obf_wire.specs.Fields.{Window}
 use Rattle.coord_delta.specs.Steps.{Place, places, places_from}
 use Rattle.file_grammar.specs.declared.parts.Boxed.TheVariants.{Map}
-use Rattle.file_grammar.specs.declared.parts.Part.TheVariants.{Block as BlockPart, Boxes, Record, Texts}
-use Rattle.file_grammar.specs.BoxRules.{Beside, is_on_grid, is_ordinal, section_facts}
-use Rattle.file_grammar.specs.Facts.{first_failing}
+use Rattle.file_grammar.specs.declared.parts.Part.TheVariants.{Block as BlockPart, Record, Texts}
+use Rattle.file_grammar.specs.BoxRules.{is_on_grid, is_ordinal}
+use Rattle.file_grammar.specs.Listed.{HoldsSection as HoldsSectionOf}
 use Rattle.file_grammar.specs.MapRules.{MapFields, map_boxing, map_fields, map_record_of}
 use Rattle.file_grammar.specs.Messages.{Fields}
 use Rattle.file_grammar.specs.Readings.{message_at, numbers_at}
-use Rattle.file_grammar.specs.Sections.{Block, Entry, Placed, block_with, blocks_in, entries_from, messages_in, section_in, step_of, texts_in}
+use Rattle.file_grammar.specs.Sections.{Block, Entry, Placed, block_with, blocks_in, entries_from, messages_in, step_of, texts_in}
 use Rattle.file_grammar.specs.Walks.{Standing, left_in}
 use Rattle.boxed_exact.specs.Records.{AreRecords}
 use Rattle.boxed_exact.specs.Pairs.{AreBlocks}
@@ -36,15 +36,9 @@ block_records fields = option_map_or (λ block. map (record_of block) block.entr
 
 -- Sound parts.
 
--- the bytes of the window have the form of a section in which no rule fails, beside a table of rules, of which there are at
--- most 100,000
-pub record HoldsSection (w : Window) : Type 0 where
-  pub window : IsWindow w
-  pub beside : Beside
-  pub few : length beside.rules ≤ 100000
-  pub fields : Fields
-  pub read : message_at (Boxes Map) w ≡ Ok fields
-  pub sound : first_failing (section_facts map_boxing beside (section_in fields)) ≡ None
+-- the bytes of the window have the form of a section of map records in which no rule fails
+abbrev pub HoldsSection : Window → Type 0
+HoldsSection w = HoldsSectionOf Map map_boxing w
 
 -- the ordinal is an object's, the number of the rule has 32 bits, and each point is on the grid
 pub record IsSoundRecord (n : ℕ) (f : MapFields) : Type 0 where

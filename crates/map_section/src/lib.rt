@@ -5,9 +5,10 @@
 //! form whether all rules hold, and finds the first that fails. `specs/Packed.antt` says which bytes are written. What has to
 //! hold, and which records a section is, is said by the definitions of `file_grammar`, which later sections share.
 //!
-//! The layer above may rely on this: `write` appends exactly the packed bytes, or nothing; `form` and `sound` answer exactly whether the
-//! form is good and every rule holds, or the first break; of a sound section `list` gives exactly the records, and nothing that stands
-//! in it is an error; `count` tells how many there are; and what is packed is of good form, sound, and read as the same records.
+//! The layer above may rely on this: `write` appends exactly the packed bytes, or nothing; `MapClass` is checked by `boxed_check`, which
+//! answers exactly whether the form is good and every rule holds, or the first break; of a section in which every rule holds `list`
+//! gives exactly the records, and nothing that stands in it is an error; and what is packed is of good form, breaks no rule, and is read
+//! as the same records.
 #![tactic(auto)]
 
 mod checking;

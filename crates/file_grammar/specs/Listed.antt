@@ -1,4 +1,4 @@
--- The records of a section, in the order of the file, and what has to hold of the bytes for that.
+-- The records of a section, in the order of the file, and what it is for bytes to hold them.
 use Rattle.std.specs.Prelude.{◌≡◌, ◌≤◌, List, length, map, flat_map, None, Ok}
 use Rattle.obf_wire.specs.Fields.{Window, IsWindow}
 use Rattle.file_grammar.specs.declared.parts.Boxed.{Boxed}
