@@ -12,7 +12,7 @@ use Rattle.live_model.specs.declared.objects.Entity.{Entity}
 use Rattle.live_model.specs.declared.objects.Line.{Line}
 use Rattle.live_model.specs.declared.objects.Line.TheVariants.{Live, Gone}
 use Rattle.live_model.specs.Ids.{ordinal}
-use Rattle.ordered_lists.specs.Ordered.{IsRisingBy, below, above, put_by, without_by, put_all}
+use Rattle.ordered_lists.specs.Ordered.{below, above, put_by, put_all}
 use Rattle.live_model.specs.Objects.{IsGood, IsGoodLine}
 use Rattle.live_model.specs.Stores.{key, apply, apply_line, IsRising, IsStore}
 use Rattle.ordered_lists.proofs.PutAll.{all_filter, all_append, rising-put_by, rising-without_by}

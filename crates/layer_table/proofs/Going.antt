@@ -1,16 +1,14 @@
 -- Going over the values of a map in the order of its keys.
 use Rattle.std.proofs.Common.{◌≡◌, List, [], ◌∷◌, ◌++◌, Bool, true, false, cond, Option, Some, None, refl, sym, ap, ◌∙◌, arith, length, zip, subst, append_assoc, get_or}
 use Rattle.std.specs.Prelude.{filter, find, map}
-use Rattle.std.specs.Option.{option_to_list, option_map}
 use Rattle.std.specs.List.{AllByRecursion}
 use Rattle.std.specs.Ordering.{is_gt, ordering_reverse}
 use Rattle.std.specs.declared.cmp.Ordering.{Ordering}
-use Rattle.std.specs.declared.cmp.Ordering.TheVariants.{Less, Equal, Greater}
+use Rattle.std.specs.declared.cmp.Ordering.TheVariants.{Less}
 use Rattle.std.specs.Cmp.{IsTotalOrder, tied_itself}
 use Rattle.std.proofs.lemmas.List.{append-nil}
-use Rattle.ordered_lists.specs.Ordered.{below, above, without_by}
 use Rattle.ordered_lists.proofs.PutAll.{all_map, all_append, filter_all}
-use Rattle.layer_table.specs.Layers.{key_of, value_of, IsMap, is_above, next_of, set_at, laid, values_set, values_above}
+use Rattle.layer_table.specs.Layers.{key_of, value_of, IsMap, is_above, next_of, laid, values_set, values_above}
 use Rattle.layer_table.proofs.Following.{above_more}
 use Rattle.layer_table.proofs.Joining.{AreBelow, all_lower, none_higher, put_above}
 

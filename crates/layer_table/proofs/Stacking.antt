@@ -1,9 +1,8 @@
 -- Layers that are merged into one from the newest on.
-use Rattle.std.proofs.Common.{◌≡◌, ℕ, zero, suc, take, drop, nat_lt, ◌+◌, ◌≤◌, List, [], ◌∷◌, ◌++◌, Bool, true, false, cond, ◌||◌, not, nat_eq, Option, Some, refl, sym, ap, ◌∙◌, arith, length, subst}
+use Rattle.std.proofs.Common.{◌≡◌, ℕ, zero, suc, take, drop, nat_lt, ◌+◌, ◌≤◌, List, [], ◌∷◌, ◌++◌, Bool, true, false, cond, ◌||◌, not, nat_eq, Option, refl, sym, ap, ◌∙◌, arith, length}
 use Rattle.std.proofs.lemmas.Bool.{eqb-true}
 use Rattle.std.proofs.lemmas.Bool.Decides.{nat_tests}
-use Rattle.std.specs.Prelude.{filter}
-use Rattle.std.specs.Option.{option_to_list, is_some}
+use Rattle.std.specs.Option.{is_some}
 use Rattle.std.specs.Cmp.{IsTotalOrder}
 use Rattle.std.specs.declared.cmp.Ordering.{Ordering}
 use Rattle.ordered_lists.specs.Ordered.{put_all}

@@ -1,7 +1,6 @@
 -- A finite map is a list of pairs whose keys rise. A layer is such a list of changes: a key with a value sets it, one without removes it.
-use Rattle.std.specs.Prelude.{◌≡◌, ℕ, ◌+◌, ◌||◌, List, [], ◌∷◌, Bool, true, if◌then◌else◌, Option, Some, None, find, filter, map, length, ◌++◌}
+use Rattle.std.specs.Prelude.{ℕ, ◌+◌, ◌||◌, List, [], ◌∷◌, Bool, true, if◌then◌else◌, Option, Some, None, find, filter, map, length, ◌++◌}
 use Rattle.std.specs.Option.{option_map, option_copied, option_to_list, is_some}
-use Rattle.std.specs.List.{AllByRecursion}
 use Rattle.std.specs.Ordering.{is_eq, is_gt, is_lt}
 use Rattle.std.specs.declared.cmp.Ordering.{Ordering}
 use Rattle.std.specs.declared.cmp.Ordering.TheVariants.{Less, Greater}

@@ -5,6 +5,8 @@
 mod layers;
 #[cfg(test)]
 mod stores;
+#[cfg(test)]
+mod users;
 
 /// Nothing; the crate is its tests.
 pub fn nothing() {}

@@ -82,11 +82,11 @@ fn whole(alloc: Global, fields: &mut Fields<'_>, out: &mut Answer) -> Result<(),
 
 /// The canonical lines of the objects of a store.
 fn written(alloc: Global, store: &Store) -> Result<Vec<u8>, RowError> {
-    let mut text = Vec::new(alloc);
+    let mut objects = Vec::new(alloc);
     for object in store.entities() {
-        put_line(&mut text, object)?;
+        objects.push(object.copy(alloc)?)?;
     }
-    Ok(text)
+    Ok(write(alloc, &objects)?)
 }
 
 /// Puts the canonical line of an object, or `none`.

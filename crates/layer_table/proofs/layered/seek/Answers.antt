@@ -1,7 +1,7 @@
-use Rattle.std.proofs.Common.{◌≡◌, ◌≤◌, ◌-◌, [], ap, sym, ◌∙◌, Some, None, Option, arith, length, take}
+use Rattle.std.proofs.Common.{◌-◌, ap, sym, ◌∙◌, Some, None, arith, length}
 use Rattle.std.proofs.lemmas.List.{length-take}
-use Rattle.std.specs.Option.{option_map, option_copied}
-use Rattle.layer_table.specs.Layers.{pair_at, both_seen, change_seen}
+use Rattle.std.specs.Option.{option_map}
+use Rattle.layer_table.specs.Layers.{change_seen}
 use Rattle.layer_table.proofs.Laying.{sought}
 use Rattle.layer_table.proofs.layered.seek.Goals as goal
 

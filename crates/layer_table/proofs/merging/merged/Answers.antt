@@ -1,4 +1,4 @@
-use Rattle.std.proofs.Common.{◌≡◌, ◌≤◌, ◌+◌, ◌++◌, ◌∷◌, [], List, false, Some, sym, ap, ◌∙◌, arith, length, subst}
+use Rattle.std.proofs.Common.{◌≡◌, ◌++◌, ◌∷◌, [], false, sym, ap, ◌∙◌, arith, length, subst}
 use Rattle.std.specs.Option.{option_to_list}
 use Rattle.ordered_lists.specs.Ordered.{put_all}
 use Rattle.layer_table.specs.Layers.{IsMap, key_of, kept, laid, under, changes_in}

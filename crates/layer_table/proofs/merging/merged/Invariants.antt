@@ -1,4 +1,4 @@
-use Rattle.std.proofs.Common.{◌≡◌, ◌≤◌, ◌+◌, [], List, Bool, false, length}
+use Rattle.std.proofs.Common.{◌≡◌, ◌≤◌, ◌+◌, [], List, false, length}
 use Rattle.layer_table.specs.Layers.{IsMap, changes_in, laid, under}
 use Rattle.layer_table.proofs.merging.merged.Given as goal
 

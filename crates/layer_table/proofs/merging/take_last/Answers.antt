@@ -1,5 +1,4 @@
-use Rattle.std.proofs.Common.{◌≡◌, ◌∙◌, ap, sym}
-use Rattle.std.specs.Option.{option_copied}
+use Rattle.std.proofs.Common.{◌≡◌, ◌∙◌, sym}
 use Rattle.std.specs.declared.cmp.Ordering.TheVariants.{Less, Equal, Greater}
 use Rattle.layer_table.specs.Layers.{compared_keys}
 use Rattle.layer_table.proofs.Joining.{taken_newer, taken_older, taken_both, both_empty, rising_left, end_of}

@@ -1,4 +1,4 @@
-use Rattle.std.proofs.Common.{◌≡◌, ◌∙◌, ◌∷◌, [], Some, None, ap, map, sym}
+use Rattle.std.proofs.Common.{◌≡◌, ◌∙◌, ◌∷◌, Some, None, ap, map, sym}
 use Rattle.std.specs.Option.{option_copied, option_map}
 use Rattle.layer_table.specs.Layers.{both_seen, next_of, value_of, values_in}
 use Rattle.layer_table.proofs.Going.{above_next, above_none}

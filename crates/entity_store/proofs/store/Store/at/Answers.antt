@@ -1,4 +1,4 @@
-use Rattle.std.proofs.Common.{◌≡◌, Some, sym, ◌∙◌, ap, eqb}
+use Rattle.std.proofs.Common.{sym, ◌∙◌, ap, eqb}
 use Rattle.std.specs.Prelude.{find}
 use Rattle.std.specs.Option.{option_copied}
 use Rattle.live_model.specs.Stores.{key}

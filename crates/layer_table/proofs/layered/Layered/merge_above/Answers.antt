@@ -1,4 +1,4 @@
-use Rattle.std.proofs.Common.{◌≡◌, ◌++◌, ◌∷◌, [], sym, ◌∙◌, ap, take, arith}
+use Rattle.std.proofs.Common.{◌≡◌, ◌++◌, ◌∷◌, [], ◌∙◌, ap, take, arith}
 use Rattle.layer_table.specs.Layers.{under, laid}
 use Rattle.layer_table.proofs.Laying.{rising_under}
 use Rattle.layer_table.proofs.Stacking.{merged_same, none_kept}

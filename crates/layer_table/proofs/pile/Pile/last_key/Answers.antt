@@ -1,4 +1,4 @@
-use Rattle.std.proofs.Common.{◌≡◌, ◌-◌, ◌∙◌, ap, arith, length}
+use Rattle.std.proofs.Common.{◌≡◌, ◌∙◌, ap, arith, length}
 use Rattle.std.specs.Option.{option_map}
 use Rattle.layer_table.specs.Layers.{key_of, last_of}
 use Rattle.layer_table.proofs.Piling.{last_read, last_zipped}
