@@ -1,6 +1,8 @@
 -- Worked rows of points of interest: groups as a writer packs them, what has to hold of them, and the records that they stand for.
 use Rattle.std.specs.Prelude.{◌≡◌, ℕ, ◌+◌, List, [], ◌∷◌, ◌++◌, length, take, map, codes, refl, pos, Result, Ok, Err, Option, Some, None, filter_map}
 use Rattle.std.specs.List.{range_with_len}
+use Rattle.std.specs.Str.{is_utf8, chars}
+use Rattle.std.proofs.Math.Utf8.{encode}
 use Rattle.live_model.specs.declared.points.Point.{Point}
 use Rattle.live_model.specs.declared.records.PoiRec.{PoiRec}
 use Rattle.live_model.specs.declared.ids.Kind.{Kind}
@@ -186,7 +188,7 @@ unfolding groups_facts section_facts
 equal = refl
 
 falling : all_groups (group 0 (codes "cafe") (boxes 29 281474976710657) (group 200 (codes "bar") (boxes 229 281474976710657) ends)) ≡ at 200 kinds.BadOrder ∷ []
-unfolding groups_facts section_facts
+unfolding groups_facts section_facts is_utf8 chars encode
 falling = refl
 
 -- a capital letter; the empty text; a byte that is not UTF-8, of which no order is asked
@@ -199,7 +201,7 @@ unfolding groups_facts section_facts
 empty_category = refl
 
 not_utf8 : all_groups (group 0 (255 ∷ []) (boxes 29 281474976710657) (group 200 (codes "bar") (boxes 229 281474976710657) ends)) ≡ at 9 kinds.BadText ∷ []
-unfolding groups_facts section_facts
+unfolding groups_facts section_facts is_utf8 chars encode
 not_utf8 = refl
 
 without_a_block : all_groups (group 0 (codes "bar") (no_block 29) ends) ≡ at 0 kinds.BadCount ∷ []

@@ -123,11 +123,11 @@ fn run_of(category: &[u8], records: &[&PoiRec]) -> usize
     count
 }
 
-/// Whether the record is of this category.
-fn is_of(category: &[u8], record: &PoiRec) -> bool
-    ensures { result ≡ is_eq (text_cmp category.now record.now.category) }
+/// Whether an item is of this category.
+fn is_of(category: &[u8], item: &PoiRec) -> bool
+    ensures { result ≡ is_eq (text_cmp category.now item.now.category) }
 {
-    category.cmp(record.category.as_bytes()) == Ordering::Equal
+    category.cmp(item.category.as_bytes()) == Ordering::Equal
 }
 
 /// Appends the group of a category with these records.
