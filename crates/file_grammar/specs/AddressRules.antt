@@ -91,7 +91,7 @@ abbrev pub addresses_rise : Address → Address → Bool
 addresses_rise a b =
     let keys = text_cmp a.key.value b.key.value in
     (is_lt keys || (is_eq keys && (nat_lt a.kind.value b.kind.value
-        || ((a.kind.value == b.kind.value) && (nat_le a.ordinal.value b.ordinal.value || not (is_ordinal a.ordinal.value && is_ordinal b.ordinal.value))))))
+    || ((a.kind.value == b.kind.value) && (nat_le a.ordinal.value b.ordinal.value || not (is_ordinal a.ordinal.value && is_ordinal b.ordinal.value))))))
     || not (is_utf8 a.key.value && is_utf8 b.key.value)
 
 -- a street is a way's; a place and a house are a node's or a way's, and so may be what is of no kind
