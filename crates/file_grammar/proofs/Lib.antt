@@ -14,3 +14,5 @@ pub mod HourNumbers
 pub mod HeadsByNumbers
 pub mod FileLaws
 pub mod Built
+pub mod StatedTables
+pub mod OneTable

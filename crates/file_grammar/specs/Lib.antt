@@ -1,4 +1,5 @@
 pub mod Tables
+pub mod StatedTables
 pub mod Messages
 pub mod Readings
 pub mod Walks

@@ -10,11 +10,14 @@ mod fields;
 mod first;
 mod laws;
 mod parts;
+mod rows;
 mod tables;
 mod walk;
 
 pub use fields::FieldWalk;
 pub use first::{FirstBreak, one_first_break};
 pub use laws::{heads_are_their_numbers, readings_are_messages, unbroken_bytes_are_files};
-pub use parts::{Boxed, Content, Group, Part};
+pub use parts::{Boxed, Content, Group, Part, Version};
+pub use rows::Row;
+pub use tables::tables_are_stated;
 pub use walk::form;

@@ -12,6 +12,13 @@ pub enum Boxed {
     Restriction,
 }
 
+/// The version of the form of a file: in the second an address has a language.
+#[derive(Clone, Copy, Debug, PartialEq, Eq)]
+pub enum Version {
+    One,
+    Two,
+}
+
 /// A message of a map file, or of one of its parts.
 #[derive(Clone, Copy, Debug, PartialEq, Eq)]
 pub enum Part {
@@ -38,6 +45,21 @@ pub enum Part {
     /// No field.
     Nothing,
     Marks,
+    /// Groups of points of interest, one a category.
+    Pois,
+    /// A category, and its points of interest.
+    Group,
+    /// Addresses by their names, and houses.
+    Addresses(Version),
+    /// Addresses in the order of their keys: the first and last key of each block, then the blocks.
+    Keyed(Version),
+    /// The first and last key of a block, and the block's offset.
+    KeyEntry,
+    /// The addresses of a block.
+    KeyedBlock(Version),
+    Address(Version),
+    /// Roads, and restrictions.
+    Routing,
 }
 
 /// How many numbers of a list belong together.

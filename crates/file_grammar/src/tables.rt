@@ -1,322 +1,189 @@
-//! Which field may come where in a message, and what it holds.
+//! A walk over the rows of a message: which field may come where, and what it holds.
 
-ghost use Rattle.std.specs.Prelude.{◌≡◌, ◌≢◌, true, false};
-ghost use Rattle.obf_wire.specs.Fields.{are_keys};
-ghost use Rattle.file_grammar.specs.Tables.{next_keys, may_end, content_of};
-ghost use Rattle.file_grammar.specs.declared.parts.Boxed.TheVariants.{Map, Poi, Road, Restriction};
-ghost use Rattle.file_grammar.specs.declared.parts.Part.TheVariants.{File, Head, Boxes, Tree, Node, Block, Texts, Record, NoAddresses, NoRoads, NoBoxes, Nothing, Marks};
+ghost use Rattle.std.specs.Prelude.{◌≡◌, ◌≤◌, ◌==◌, ◌∷◌, ◌++◌, [], None, Some, MatchOption, find, take, true};
+ghost use Rattle.std.specs.List.{list_all};
+ghost use Rattle.std.specs.Option.{option_map};
+ghost use Rattle.obf_wire.specs.Fields.{are_keys, has_wire_type};
+ghost use Rattle.file_grammar.specs.Tables.{are_rows, content_of, ends_of, keys_of, left_at, may_end, next_in, next_keys, own, own_part, rows_behind};
+ghost use Rattle.file_grammar.specs.StatedTables.{TablesLaw};
+ghost use Rattle.file_grammar.specs.declared.rows.TheConstants.{LEAF, NODE};
 
-use crate::parts::{Boxed, Content, Group, Part};
+use crate::parts::{Content, Part};
+use crate::rows::{LEAF, Row, table_of};
 
-/// The keys of the fields that may come at a place of a message, and whether the message may end there.
-#[derive(Clone, Copy, Debug, Drop)]
+/// The keys of the fields that may come at a place of a message, of which there are at most two, and whether the message may
+/// end there.
+#[derive(Clone, Copy, Debug)]
 pub(crate) struct Next {
-    pub(crate) keys: &'static [u64],
+    keys: [u64; 2],
+    count: usize,
     pub(crate) may_end: bool,
 }
 
-fn must(keys: &'static [u64]) -> Next
-    ensures keys { result.keys.now ≡ keys.now }
-    ensures end { result.may_end ≡ false }
-{
-    Next {
-        keys,
-        may_end: false,
+impl Next {
+    /// The keys.
+    pub(crate) fn keys(&self) -> &[u64]
+        requires { self.now.count ≤ 2 }
+        ensures { result.now ≡ take self.now.count self.now.keys }
+    {
+        &self.keys[..self.count]
     }
 }
 
-fn may(keys: &'static [u64]) -> Next
-    ensures keys { result.keys.now ≡ keys.now }
-    ensures end { result.may_end ≡ true }
+/// No field may come.
+fn none(may_end: bool) -> Next
+    ensures keys { take result.count result.keys ≡ [] }
+    ensures good { are_keys (take result.count result.keys) ≡ true }
+    ensures few { result.count ≤ 2 }
+    ensures end { result.may_end ≡ may_end }
 {
     Next {
-        keys,
-        may_end: true,
+        keys: [0, 0],
+        count: 0,
+        may_end,
     }
 }
 
-/// What may come at the beginning of a message, or behind a field with this key. Behind a key that the
-/// message has not, nothing may.
+/// One field may come.
+fn one(key: u64, may_end: bool) -> Next
+    requires { has_wire_type key ≡ true }
+    ensures keys { take result.count result.keys ≡ key ∷ [] }
+    ensures good { are_keys (take result.count result.keys) ≡ true }
+    ensures few { result.count ≤ 2 }
+    ensures end { result.may_end ≡ may_end }
+{
+    Next {
+        keys: [key, 0],
+        count: 1,
+        may_end,
+    }
+}
+
+/// One of two fields may come.
+fn two(first: u64, second: u64, may_end: bool) -> Next
+    requires first { has_wire_type first ≡ true }
+    requires second { has_wire_type second ≡ true }
+    ensures keys { take result.count result.keys ≡ first ∷ second ∷ [] }
+    ensures good { are_keys (take result.count result.keys) ≡ true }
+    ensures few { result.count ≤ 2 }
+    ensures end { result.may_end ≡ may_end }
+{
+    Next {
+        keys: [first, second],
+        count: 2,
+        may_end,
+    }
+}
+
+/// What may come at the beginning of a message, or behind a field with this key. Behind a key that the message has not, nothing
+/// may.
 pub(crate) fn next_fields(part: Part, last: Option<u64>) -> Next
-    ensures keys { result.keys.now ≡ next_keys part last }
+    ensures keys { take result.count result.keys ≡ next_keys part last }
+    ensures good { are_keys (take result.count result.keys) ≡ true }
+    ensures few { result.count ≤ 2 }
     ensures end { result.may_end ≡ may_end part last }
-    ensures good { are_keys result.keys.now ≡ true }
 {
     match part {
-        Part::File => next_in_file(last),
-        Part::Head => next_in_head(last),
-        Part::Boxes(class) => next_in_boxes(class, last),
         Part::Tree => next_in_tree(last),
-        Part::Node(0) => next_in_leaf(last),
-        Part::Node(levels) => next_in_node(levels, last),
-        Part::Block(class) => next_in_block(class, last),
-        Part::Texts => next_in_texts(last),
-        Part::Record(class) => next_in_record(class, last),
-        Part::NoAddresses => next_in_no_addresses(last),
-        Part::NoRoads => next_in_no_roads(last),
-        Part::NoBoxes => next_in_no_boxes(last),
-        Part::Nothing => next_in_nothing(last),
-        Part::Marks => next_in_marks(last),
+        Part::Node(0) => next_behind(&LEAF, last),
+        Part::Node(_) => next_in_node(last),
+        _ => next_behind(table_of(part), last),
     }
 }
 
-fn next_in_record(class: Boxed, last: Option<u64>) -> Next
-    ensures keys { result.keys.now ≡ next_keys (Record class) last }
-    ensures end { result.may_end ≡ may_end (Record class) last }
-    ensures good { are_keys result.keys.now ≡ true }
-{
-    match class {
-        Boxed::Map => next_in_map_record(last),
-        Boxed::Poi => next_in_poi_record(last),
-        Boxed::Road => next_in_road_record(last),
-        Boxed::Restriction => next_in_restriction_record(last),
-    }
-}
-
-fn next_in_file(last: Option<u64>) -> Next
-    ensures keys { result.keys.now ≡ next_keys File last }
-    ensures end { result.may_end ≡ may_end File last }
-    ensures good { are_keys result.keys.now ≡ true }
+/// The same in the rows of one table.
+fn next_behind(rows: &[Row], last: Option<u64>) -> Next
+    requires rows { are_rows rows.now ≡ true }
+    ensures keys { take result.count result.keys ≡ keys_of (left_at last (rows.now ∷ [])) }
+    ensures good { are_keys (take result.count result.keys) ≡ true }
+    ensures few { result.count ≤ 2 }
+    ensures end { result.may_end ≡ ends_of (left_at last (rows.now ∷ [])) }
 {
     match last {
-        None => must(&[8]),
-        Some(8) => must(&[18]),
-        Some(18) => must(&[26]),
-        Some(26) => must(&[54]),
-        Some(54) => must(&[62]),
-        Some(62) => must(&[70]),
-        Some(70) => must(&[78]),
-        Some(78) => must(&[134]),
-        Some(134) => must(&[256]),
-        Some(256) => may(&[]),
-        Some(_) => must(&[]),
+        None => next_in(rows),
+        Some(key) => match rows_behind(rows, key) {
+            None => none(false),
+            Some(left) => next_in(left),
+        },
     }
 }
 
-fn next_in_head(last: Option<u64>) -> Next
-    ensures keys { result.keys.now ≡ next_keys Head last }
-    ensures end { result.may_end ≡ may_end Head last }
-    ensures good { are_keys result.keys.now ≡ true }
+/// The rows that are left behind a field of this key.
+fn rows_behind(rows: &[Row], key: u64) -> Option<&[Row]>
+    ensures { MatchOption result (rows_behind key rows.now ≡ None) (λ left. rows_behind key rows.now ≡ Some left.now) }
 {
-    match last {
-        None => must(&[8]),
-        Some(8) => must(&[16]),
-        Some(16) => must(&[24]),
-        Some(24) => may(&[]),
-        Some(_) => must(&[]),
+    let mut rest = rows;
+    while let [row, after @ ..] = rest {
+        if row.key == key {
+            return Some(if row.many { rest } else { after });
+        }
+        rest = after;
     }
+    None
 }
 
-fn next_in_map_record(last: Option<u64>) -> Next
-    ensures keys { result.keys.now ≡ next_keys (Record Map) last }
-    ensures end { result.may_end ≡ may_end (Record Map) last }
-    ensures good { are_keys result.keys.now ≡ true }
+/// What may come where these rows are left.
+fn next_in(rows: &[Row]) -> Next
+    requires rows { are_rows rows.now ≡ true }
+    ensures keys { take result.count result.keys ≡ next_in rows.now }
+    ensures good { are_keys (take result.count result.keys) ≡ true }
+    ensures few { result.count ≤ 2 }
+    ensures end { result.may_end ≡ list_all (λ row. row.many) rows.now }
 {
-    match last {
-        None => must(&[8]),
-        Some(8) => must(&[16]),
-        Some(16) => must(&[24]),
-        Some(24) => must(&[32]),
-        Some(32) => must(&[42]),
-        Some(42) => may(&[]),
-        Some(_) => must(&[]),
+    let [row, after @ ..] = rows else {
+        return none(true);
+    };
+    if !row.many {
+        return one(row.key, false);
     }
+    let [next, beyond @ ..] = after else {
+        return one(row.key, true);
+    };
+    two(row.key, next.key, next.many && beyond.is_empty())
 }
 
-fn next_in_poi_record(last: Option<u64>) -> Next
-    ensures keys { result.keys.now ≡ next_keys (Record Poi) last }
-    ensures end { result.may_end ≡ may_end (Record Poi) last }
-    ensures good { are_keys result.keys.now ≡ true }
-{
-    match last {
-        None => must(&[8]),
-        Some(8) => must(&[16]),
-        Some(16) => must(&[26]),
-        Some(26) => may(&[]),
-        Some(_) => must(&[]),
-    }
-}
-
-fn next_in_road_record(last: Option<u64>) -> Next
-    ensures keys { result.keys.now ≡ next_keys (Record Road) last }
-    ensures end { result.may_end ≡ may_end (Record Road) last }
-    ensures good { are_keys result.keys.now ≡ true }
-{
-    match last {
-        None => must(&[8]),
-        Some(8) => must(&[16]),
-        Some(16) => must(&[24]),
-        Some(24) => must(&[32]),
-        Some(32) => must(&[42]),
-        Some(42) => may(&[]),
-        Some(_) => must(&[]),
-    }
-}
-
-fn next_in_restriction_record(last: Option<u64>) -> Next
-    ensures keys { result.keys.now ≡ next_keys (Record Restriction) last }
-    ensures end { result.may_end ≡ may_end (Record Restriction) last }
-    ensures good { are_keys result.keys.now ≡ true }
-{
-    match last {
-        None => must(&[8]),
-        Some(8) => must(&[16]),
-        Some(16) => must(&[24]),
-        Some(24) => must(&[32]),
-        Some(32) => must(&[40]),
-        Some(40) => must(&[50]),
-        Some(50) => may(&[]),
-        Some(_) => must(&[]),
-    }
-}
-
-fn next_in_no_addresses(last: Option<u64>) -> Next
-    ensures keys { result.keys.now ≡ next_keys NoAddresses last }
-    ensures end { result.may_end ≡ may_end NoAddresses last }
-    ensures good { are_keys result.keys.now ≡ true }
-{
-    match last {
-        None => must(&[14]),
-        Some(14) => must(&[22]),
-        Some(22) => may(&[]),
-        Some(_) => must(&[]),
-    }
-}
-
-fn next_in_no_roads(last: Option<u64>) -> Next
-    ensures keys { result.keys.now ≡ next_keys NoRoads last }
-    ensures end { result.may_end ≡ may_end NoRoads last }
-    ensures good { are_keys result.keys.now ≡ true }
-{
-    match last {
-        None => must(&[14]),
-        Some(14) => must(&[22]),
-        Some(22) => may(&[]),
-        Some(_) => must(&[]),
-    }
-}
-
-fn next_in_no_boxes(last: Option<u64>) -> Next
-    ensures keys { result.keys.now ≡ next_keys NoBoxes last }
-    ensures end { result.may_end ≡ may_end NoBoxes last }
-    ensures good { are_keys result.keys.now ≡ true }
-{
-    match last {
-        None => must(&[14]),
-        Some(14) => may(&[]),
-        Some(_) => must(&[]),
-    }
-}
-
-fn next_in_marks(last: Option<u64>) -> Next
-    ensures keys { result.keys.now ≡ next_keys Marks last }
-    ensures end { result.may_end ≡ may_end Marks last }
-    ensures good { are_keys result.keys.now ≡ true }
-{
-    match last {
-        None => must(&[10]),
-        Some(10) => may(&[]),
-        Some(_) => must(&[]),
-    }
-}
-
-fn next_in_boxes(class: Boxed, last: Option<u64>) -> Next
-    ensures keys { result.keys.now ≡ next_keys (Boxes class) last }
-    ensures end { result.may_end ≡ may_end (Boxes class) last }
-    ensures good { are_keys result.keys.now ≡ true }
-{
-    match last {
-        None => must(&[14]),
-        Some(14) => may(&[22]),
-        Some(22) => may(&[22]),
-        Some(_) => must(&[]),
-    }
-}
-
-fn next_in_block(class: Boxed, last: Option<u64>) -> Next
-    ensures keys { result.keys.now ≡ next_keys (Block class) last }
-    ensures end { result.may_end ≡ may_end (Block class) last }
-    ensures good { are_keys result.keys.now ≡ true }
-{
-    match last {
-        None => must(&[14]),
-        Some(14) => may(&[18]),
-        Some(18) => may(&[18]),
-        Some(_) => must(&[]),
-    }
-}
-
-fn next_in_texts(last: Option<u64>) -> Next
-    ensures keys { result.keys.now ≡ next_keys Texts last }
-    ensures end { result.may_end ≡ may_end Texts last }
-    ensures good { are_keys result.keys.now ≡ true }
-{
-    match last {
-        None => may(&[10]),
-        Some(10) => may(&[10]),
-        Some(_) => must(&[]),
-    }
-}
-
-fn next_in_nothing(last: Option<u64>) -> Next
-    ensures keys { result.keys.now ≡ next_keys Nothing last }
-    ensures end { result.may_end ≡ may_end Nothing last }
-    ensures good { are_keys result.keys.now ≡ true }
-{
-    match last {
-        None => may(&[]),
-        Some(_) => must(&[]),
-    }
-}
-
+/// What may come in a tree: nothing, or the node at the top.
 fn next_in_tree(last: Option<u64>) -> Next
-    ensures keys { result.keys.now ≡ next_keys Tree last }
-    ensures end { result.may_end ≡ may_end Tree last }
-    ensures good { are_keys result.keys.now ≡ true }
+    ensures keys { take result.count result.keys ≡ keys_of (left_at last ([] ∷ LEAF ∷ NODE ∷ [])) }
+    ensures good { are_keys (take result.count result.keys) ≡ true }
+    ensures few { result.count ≤ 2 }
+    ensures end { result.may_end ≡ ends_of (left_at last ([] ∷ LEAF ∷ NODE ∷ [])) }
 {
     match last {
-        None => may(&[8]),
-        Some(8) => must(&[16]),
-        Some(16) => must(&[24]),
-        Some(24) => must(&[32]),
-        Some(32) => must(&[40, 54]),
-        Some(40) => may(&[]),
-        Some(54) => may(&[54]),
-        Some(_) => must(&[]),
+        None => one(LEFT, true),
+        Some(_) => next_in_node(last),
     }
 }
 
-fn next_in_leaf(last: Option<u64>) -> Next
-    ensures keys { result.keys.now ≡ next_keys (Node 0) last }
-    ensures end { result.may_end ≡ may_end (Node 0) last }
-    ensures good { are_keys result.keys.now ≡ true }
-{
-    match last {
-        None => must(&[8]),
-        Some(8) => must(&[16]),
-        Some(16) => must(&[24]),
-        Some(24) => must(&[32]),
-        Some(32) => must(&[40]),
-        Some(40) => may(&[]),
-        Some(_) => must(&[]),
-    }
-}
+/// The keys of a node: left, top, right, bottom, the offset of a block, and nodes below.
+const LEFT: u64 = 8;
 
-fn next_in_node(levels: u8, last: Option<u64>) -> Next
-    requires some { levels ≢ 0 }
-    ensures keys { result.keys.now ≡ next_keys (Node levels) last }
-    ensures end { result.may_end ≡ may_end (Node levels) last }
-    ensures good { are_keys result.keys.now ≡ true }
+const TOP: u64 = 16;
+
+const RIGHT: u64 = 24;
+
+const BOTTOM: u64 = 32;
+
+const PLACE: u64 = 40;
+
+const BELOW: u64 = 54;
+
+/// What may come in a leaf or a node with others below it.
+fn next_in_node(last: Option<u64>) -> Next
+    ensures keys { take result.count result.keys ≡ keys_of (left_at last (LEAF ∷ NODE ∷ [])) }
+    ensures good { are_keys (take result.count result.keys) ≡ true }
+    ensures few { result.count ≤ 2 }
+    ensures end { result.may_end ≡ ends_of (left_at last (LEAF ∷ NODE ∷ [])) }
 {
     match last {
-        None => must(&[8]),
-        Some(8) => must(&[16]),
-        Some(16) => must(&[24]),
-        Some(24) => must(&[32]),
-        Some(32) => must(&[40, 54]),
-        Some(40) => may(&[]),
-        Some(54) => may(&[54]),
-        Some(_) => must(&[]),
+        None => one(LEFT, false),
+        Some(LEFT) => one(TOP, false),
+        Some(TOP) => one(RIGHT, false),
+        Some(RIGHT) => one(BOTTOM, false),
+        Some(BOTTOM) => two(PLACE, BELOW, false),
+        Some(PLACE) => none(true),
+        Some(BELOW) => one(BELOW, true),
+        Some(_) => none(false),
     }
 }
 
@@ -325,191 +192,65 @@ pub(crate) fn content(part: Part, key: u64) -> Option<Content>
     ensures { result ≡ content_of part key }
 {
     match part {
-        Part::File => content_in_file(key),
-        Part::Head => content_in_head(key),
-        Part::Boxes(class) => content_in_boxes(class, key),
-        Part::Tree => content_in_tree(key),
-        Part::Node(0) => content_in_leaf(key),
-        Part::Node(levels) => content_in_node(levels, key),
-        Part::Block(class) => content_in_block(class, key),
-        Part::Texts => content_in_texts(key),
-        Part::Record(class) => content_in_record(class, key),
-        Part::NoAddresses => content_in_no_addresses(key),
-        Part::NoRoads => content_in_no_roads(key),
-        Part::NoBoxes => content_in_no_boxes(key),
-        Part::Nothing => None,
-        Part::Marks => content_in_marks(key),
+        Part::Tree => own_content(part, node_content(key)),
+        Part::Node(0) => own_content(part, content_in(&LEAF, key)),
+        Part::Node(_) => own_content(part, node_content(key)),
+        _ => own_content(part, content_in(table_of(part), key)),
     }
 }
 
-fn content_in_record(class: Boxed, key: u64) -> Option<Content>
-    ensures { result ≡ content_of (Record class) key }
+/// The same in the rows of one table.
+fn content_in(rows: &[Row], key: u64) -> Option<Content>
+    ensures { result ≡ option_map (λ row. row.content) (find (λ row. row.key == key) rows.now) }
 {
-    match class {
-        Boxed::Map => content_in_map_record(key),
-        Boxed::Poi => content_in_poi_record(key),
-        Boxed::Road => content_in_road_record(key),
-        Boxed::Restriction => content_in_restriction_record(key),
+    let mut rest = rows;
+    while let [row, after @ ..] = rest {
+        if row.key == key {
+            return Some(row.content);
+        }
+        rest = after;
+    }
+    None
+}
+
+/// The same in a leaf or a node with others below it.
+fn node_content(key: u64) -> Option<Content>
+    ensures { result ≡ option_map (λ row. row.content) (find (λ row. row.key == key) (LEAF ++ NODE)) }
+{
+    if key == BELOW {
+        Some(Content::Message(Part::Node(0)))
+    } else {
+        content_in(&LEAF, key)
     }
 }
 
-fn content_in_file(key: u64) -> Option<Content>
-    ensures { result ≡ content_of File key }
+/// What a row holds in a message of this part.
+fn own_content(part: Part, content: Option<Content>) -> Option<Content>
+    ensures { result ≡ option_map (own part) content }
 {
-    match key {
-        8 => Some(Content::Version),
-        18 => Some(Content::Message(Part::Head)),
-        26 => Some(Content::Bytes),
-        54 => Some(Content::Message(Part::Boxes(Boxed::Map))),
-        62 => Some(Content::Message(Part::NoAddresses)),
-        70 => Some(Content::Message(Part::Nothing)),
-        78 => Some(Content::Message(Part::NoRoads)),
-        134 => Some(Content::Message(Part::Marks)),
-        256 => Some(Content::Number),
-        _ => None,
+    match content {
+        Some(Content::Message(inner)) => Some(Content::Message(own_part(part, inner))),
+        _ => content,
     }
 }
 
-fn content_in_head(key: u64) -> Option<Content>
-    ensures { result ≡ content_of Head key }
+/// The part that a row names, with the class, the version or the level of the message that has the row.
+fn own_part(part: Part, inner: Part) -> Part
+    ensures { result ≡ own_part part inner }
 {
-    match key {
-        8 | 16 | 24 => Some(Content::Number),
-        _ => None,
+    match (part, inner) {
+        (Part::Boxes(class), Part::Block(_)) => Part::Block(class),
+        (Part::Block(class), Part::Record(_)) => Part::Record(class),
+        (Part::Tree, Part::Node(_)) => Part::Node(22),
+        (Part::Node(levels), Part::Node(_)) if levels > 0 => Part::Node(levels - 1),
+        (Part::Addresses(version), Part::Keyed(_)) => Part::Keyed(version),
+        (Part::Keyed(version), Part::KeyedBlock(_)) => Part::KeyedBlock(version),
+        (Part::KeyedBlock(version), Part::Address(_)) => Part::Address(version),
+        _ => inner,
     }
 }
 
-fn content_in_boxes(class: Boxed, key: u64) -> Option<Content>
-    ensures { result ≡ content_of (Boxes class) key }
-{
-    match key {
-        14 => Some(Content::Message(Part::Tree)),
-        22 => Some(Content::Message(Part::Block(class))),
-        _ => None,
-    }
-}
-
-fn content_in_tree(key: u64) -> Option<Content>
-    ensures { result ≡ content_of Tree key }
-{
-    match key {
-        8 | 16 | 24 | 32 | 40 => Some(Content::Number),
-        54 => Some(Content::Message(Part::Node(22))),
-        _ => None,
-    }
-}
-
-fn content_in_leaf(key: u64) -> Option<Content>
-    ensures { result ≡ content_of (Node 0) key }
-{
-    match key {
-        8 | 16 | 24 | 32 | 40 => Some(Content::Number),
-        _ => None,
-    }
-}
-
-fn content_in_node(levels: u8, key: u64) -> Option<Content>
-    requires some { levels ≢ 0 }
-    ensures { result ≡ content_of (Node levels) key }
-{
-    match key {
-        8 | 16 | 24 | 32 | 40 => Some(Content::Number),
-        54 => Some(Content::Message(Part::Node(levels - 1))),
-        _ => None,
-    }
-}
-
-fn content_in_block(class: Boxed, key: u64) -> Option<Content>
-    ensures { result ≡ content_of (Block class) key }
-{
-    match key {
-        14 => Some(Content::Message(Part::Texts)),
-        18 => Some(Content::Message(Part::Record(class))),
-        _ => None,
-    }
-}
-
-fn content_in_texts(key: u64) -> Option<Content>
-    ensures { result ≡ content_of Texts key }
-{
-    match key {
-        10 => Some(Content::Bytes),
-        _ => None,
-    }
-}
-
-fn content_in_map_record(key: u64) -> Option<Content>
-    ensures { result ≡ content_of (Record Map) key }
-{
-    match key {
-        8 | 16 | 24 | 32 => Some(Content::Number),
-        42 => Some(Content::Numbers(Group::Pair)),
-        _ => None,
-    }
-}
-
-fn content_in_poi_record(key: u64) -> Option<Content>
-    ensures { result ≡ content_of (Record Poi) key }
-{
-    match key {
-        8 | 16 => Some(Content::Number),
-        26 => Some(Content::Numbers(Group::Pair)),
-        _ => None,
-    }
-}
-
-fn content_in_road_record(key: u64) -> Option<Content>
-    ensures { result ≡ content_of (Record Road) key }
-{
-    match key {
-        8 | 16 | 24 | 32 => Some(Content::Number),
-        42 => Some(Content::Numbers(Group::Triple)),
-        _ => None,
-    }
-}
-
-fn content_in_restriction_record(key: u64) -> Option<Content>
-    ensures { result ≡ content_of (Record Restriction) key }
-{
-    match key {
-        8 | 16 | 24 | 32 | 40 => Some(Content::Number),
-        50 => Some(Content::Numbers(Group::Pair)),
-        _ => None,
-    }
-}
-
-fn content_in_no_addresses(key: u64) -> Option<Content>
-    ensures { result ≡ content_of NoAddresses key }
-{
-    match key {
-        14 | 22 => Some(Content::Message(Part::Nothing)),
-        _ => None,
-    }
-}
-
-fn content_in_no_roads(key: u64) -> Option<Content>
-    ensures { result ≡ content_of NoRoads key }
-{
-    match key {
-        14 | 22 => Some(Content::Message(Part::NoBoxes)),
-        _ => None,
-    }
-}
-
-fn content_in_no_boxes(key: u64) -> Option<Content>
-    ensures { result ≡ content_of NoBoxes key }
-{
-    match key {
-        14 => Some(Content::Message(Part::Nothing)),
-        _ => None,
-    }
-}
-
-fn content_in_marks(key: u64) -> Option<Content>
-    ensures { result ≡ content_of Marks key }
-{
-    match key {
-        10 => Some(Content::Numbers(Group::Single)),
-        _ => None,
-    }
-}
+/// That the tables are those that the format states.
+pub fn tables_are_stated()
+    ensures { TablesLaw }
+{}

@@ -64,7 +64,7 @@ fn read_field(
     ensures stays { OnErr result (cursor.new ≡ cursor.old) }
 {
     let next = next_fields(part, last);
-    cursor.next_field(next.keys, next.may_end)
+    cursor.next_field(next.keys(), next.may_end)
 }
 
 // What a field holds.

@@ -2,7 +2,7 @@
 
 use crate::wire::{next_range, put_break, put_field};
 use file_grammar::{Boxed, FieldWalk, FirstBreak, Group, Part, form};
-use obf_wire::FileKind;
+use obf_wire::{FileKind, Window};
 use std::alloc::Global;
 use vector_rows::{Answer, Fields, RowError};
 
@@ -37,7 +37,7 @@ fn part(fields: &mut Fields<'_>) -> Result<Part, RowError> {
 fn form_of(alloc: Global, fields: &mut Fields<'_>, out: &mut Answer) -> Result<(), RowError> {
     let part = part(fields)?;
     let range = next_range(alloc, fields)?;
-    match form(part, &range.bytes, range.from, range.to) {
+    match form(part, Window::new(&range.bytes, range.from, range.to)) {
         Ok(()) => {
             out.word("good")?;
             Ok(())
@@ -50,7 +50,7 @@ fn form_of(alloc: Global, fields: &mut Fields<'_>, out: &mut Answer) -> Result<(
 fn walk(alloc: Global, fields: &mut Fields<'_>, out: &mut Answer) -> Result<(), RowError> {
     let part = part(fields)?;
     let range = next_range(alloc, fields)?;
-    let mut walk = FieldWalk::new(part, &range.bytes, range.from, range.to);
+    let mut walk = FieldWalk::new(part, Window::new(&range.bytes, range.from, range.to));
     for _ in range.from..range.to + 1 {
         let Some(field) = walk.next() else {
             out.word("end")?;

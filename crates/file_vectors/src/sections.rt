@@ -12,7 +12,7 @@ use derive_map::derive_all;
 use entity_store::Store;
 use live_model::{Mem, Steps};
 use map_section::{MapClass, write};
-use obf_wire::{FileError, Marks};
+use obf_wire::{FileError, Marks, Window};
 use std::alloc::Global;
 use std::marker::Brand;
 use std::sync::ledger::{Blank, Ledger};
@@ -51,37 +51,27 @@ fn checked(alloc: Global, fields: &mut Fields<'_>, out: &mut Answer) -> Result<(
     let rules = rules(alloc, fields)?;
     let mark = fields.word()?;
     let range = next_range(alloc, fields)?;
-    let bytes = range.bytes.as_slice();
+    let window = Window::new(range.bytes.as_slice(), range.from, range.to);
     if mark == "-" {
-        return put_end(
-            &read(alloc, bytes, range.from, range.to, &rules, Marks::Any),
-            out,
-        );
+        return put_end(&read(alloc, window, &rules, Marks::Any), out);
     }
     let Ok(mark) = mark.parse::<u64>() else {
         return Err(RowError::BadRow);
     };
     let marks = Marks::Only(&[mark]);
-    put_end(
-        &read(alloc, bytes, range.from, range.to, &rules, marks),
-        out,
-    )
+    put_end(&read(alloc, window, &rules, marks), out)
 }
 
 /// A section of map records.
 fn read(
     alloc: Global,
-    bytes: &[u8],
-    from: usize,
-    to: usize,
+    window: Window<'_>,
     rules: &Rules,
     marks: Marks<'_>,
 ) -> Result<Kept, FileError>
-    requires ordered { from ≤ to }
-    requires within { to ≤ length bytes.now }
-    requires marks { AreRising marks }
+    requires { AreRising marks }
 {
-    check::<MapClass>(alloc, bytes, from, to, &Around { rules, marks })
+    check::<MapClass>(alloc, window, &Around { rules, marks })
 }
 
 /// The section of the map records that rules make of a store.

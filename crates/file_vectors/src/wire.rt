@@ -2,7 +2,7 @@
 
 ghost use Rattle.std.specs.Prelude.{◌≤◌, IfOk, length};
 
-use obf_wire::{Cursor, Field, FileBreak, Out, WireBreak, read_varint, unzigzag, zigzag};
+use obf_wire::{Cursor, Field, FileBreak, Out, Window, WireBreak, read_varint, unzigzag, zigzag};
 use std::alloc::Global;
 use vector_rows::{Answer, Fields, RowError};
 
@@ -111,7 +111,7 @@ fn field(alloc: Global, fields: &mut Fields<'_>, out: &mut Answer) -> Result<(),
     let keys = fields.word()?;
     let may_end = fields.word()? == "end";
     let range = next_range(alloc, fields)?;
-    let mut cursor = Cursor::new(&range.bytes, range.from, range.to);
+    let mut cursor = Cursor::new(Window::new(&range.bytes, range.from, range.to));
     let found = match keys {
         "" => cursor.next_field(&[], may_end),
         "8" => cursor.next_field(&[8], may_end),

@@ -11,6 +11,7 @@ ghost use Rattle.obf_reader.specs.Heads.{IsHeadOf};
 
 use boxed_exact::{Payload, next_number};
 use file_grammar::{FieldWalk, Part};
+use obf_wire::Window;
 use stamp_core::{Head, Level, Stamp};
 
 /// The numbers of a level and of two hours, as they stand in a file.
@@ -26,7 +27,7 @@ pub(crate) fn head_numbers(bytes: &[u8], head: Payload) -> HeadNumbers
     requires { IsInBytes bytes.now head }
     ensures { (inner : Fields) → message_at HeadPart (record { bytes = bytes.now; place = head.from; end = head.to }) ≡ Ok inner → HoldsHead result inner }
 {
-    let mut walk = FieldWalk::new(Part::Head, bytes, head.from, head.to);
+    let mut walk = FieldWalk::new(Part::Head, Window::new(bytes, head.from, head.to));
     let level = next_number(&mut walk);
     let first = next_number(&mut walk);
     let last = next_number(&mut walk);

@@ -32,7 +32,7 @@ use boxed_exact::{Around, check_exactly};
 use file_grammar::{FirstBreak, Part, form};
 use live_model::ObjId;
 use map_section::{MapClass, Section};
-use obf_wire::{FileBreak, FileError, Marks};
+use obf_wire::{FileBreak, FileError, Marks, Window};
 use owned_data::{Mem, NoMemory};
 use stamp_core::Head;
 use std::alloc::Global;
@@ -80,7 +80,7 @@ impl Image {
         ensures good { IfOk result (λ image. (file_break bytes.items ≡ None) × IsImageOf bytes.items image) }
         ensures broken { IfErr result (λ error. Breaks error (file_break bytes.items)) }
     {
-        form(Part::File, &bytes, 0, bytes.len())?;
+        form(Part::File, Window::whole(&bytes))?;
         let parts = read_parts(alloc, &bytes)?;
         if let Some(found) = first_break(alloc, &bytes, &parts)? {
             return Err(FileError::Broken(found));
@@ -234,7 +234,7 @@ fn section_break(alloc: Global, bytes: &[u8], parts: &PartsRead) -> Mem<Option<F
 {
     let map = parts.map;
     let around = around_of(parts);
-    match check_exactly::<MapClass>(alloc, bytes, map.from, map.to, &around) {
+    match check_exactly::<MapClass>(alloc, Window::new(bytes, map.from, map.to), &around) {
         Ok(_) => Ok(None),
         Err(FileError::Broken(found)) => Ok(Some(found)),
         Err(FileError::NoMemory) => Err(NoMemory),
@@ -259,7 +259,7 @@ fn kept_of(alloc: Global, bytes: &[u8], parts: &PartsRead) -> Mem<Kept>
     requires sound { break_of_section Map map_boxing (beside_of parts.now) (window_of bytes.now parts.now.map) ≡ None }
     ensures { IfOk result (IsMapKept bytes.now parts.now) }
 {
-    survey::<MapClass>(alloc, bytes, parts.map.from, parts.map.to)
+    survey::<MapClass>(alloc, Window::new(bytes, parts.map.from, parts.map.to))
 }
 
 /// A file that was read in one pass and found good.
@@ -304,7 +304,11 @@ fn see_map(alloc: Global, bytes: &[u8], parts: &PartsRead) -> Mem<Option<Kept>>
     ensures { IfOk result (λ found. IfSome found (IsMapKept bytes.now parts.now)) }
 {
     let around = around_of(parts);
-    see_section::<MapClass>(alloc, bytes, parts.map.from, parts.map.to, &around)
+    see_section::<MapClass>(
+        alloc,
+        Window::new(bytes, parts.map.from, parts.map.to),
+        &around,
+    )
 }
 
 /// The ordinals that records may have: in a base, and beside marks that break a rule of their own, every one.

@@ -11,6 +11,7 @@ ghost use Rattle.obf_reader.specs.MarkLists.{IsMarksRead, rise_from};
 
 use crate::numbers::read_numbers;
 use boxed_exact::Payload;
+use obf_wire::Window;
 use owned_data::Mem;
 use std::alloc::Global;
 
@@ -31,7 +32,7 @@ pub(crate) fn read_marks(alloc: Global, bytes: &[u8], list: Payload) -> Mem<Mark
     ensures read { IfOk result (λ read. (steps : List ℕ) → numbers_at (record { bytes = bytes.now; place = list.from; end = list.to }) ≡ Ok steps → IsMarksRead read (sums_from 0 steps)) }
     ensures rising { IfOk result (λ read. IsRisingBy nat_cmp (λ n. n) read.marks.items) }
 {
-    let steps = read_numbers(alloc, bytes, list.from, list.to)?;
+    let steps = read_numbers(alloc, Window::new(bytes, list.from, list.to))?;
     let rise = rise_behind_first(&steps);
     let ordinals = are_ordinals(&steps);
     let marks = marks_where(alloc, &steps, rise && ordinals)?;

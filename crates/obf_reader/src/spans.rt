@@ -9,6 +9,7 @@ ghost use Rattle.obf_reader.specs.Spread.{AreInside, HoldsMarks, IsInBytes, IsSp
 
 use boxed_exact::{Number, Payload, next_number, next_payload};
 use file_grammar::{FieldWalk, Part};
+use obf_wire::Window;
 
 /// Where the parts of a file stand that are read, and the version at its end.
 #[derive(Clone, Copy, Debug)]
@@ -25,7 +26,7 @@ pub(crate) fn file_spans(bytes: &[u8]) -> Spans
     ensures inside { AreInside bytes.now result }
     ensures spread { (fields : Fields) → message_at File (whole bytes.now) ≡ Ok fields → IsSpread bytes.now result fields }
 {
-    let mut walk = FieldWalk::new(Part::File, bytes, 0, bytes.len());
+    let mut walk = FieldWalk::new(Part::File, Window::whole(bytes));
     next_number(&mut walk);
     let head = next_payload(&mut walk);
     let rules = next_payload(&mut walk);
@@ -50,6 +51,6 @@ pub(crate) fn list_of_marks(bytes: &[u8], marks: Payload) -> Payload
     ensures inside { IsInBytes bytes.now result }
     ensures list { (inner : Fields) → message_at Marks (record { bytes = bytes.now; place = marks.from; end = marks.to }) ≡ Ok inner → HoldsMarks bytes.now result inner }
 {
-    let mut walk = FieldWalk::new(Part::Marks, bytes, marks.from, marks.to);
+    let mut walk = FieldWalk::new(Part::Marks, Window::new(bytes, marks.from, marks.to));
     next_payload(&mut walk)
 }

@@ -7,7 +7,7 @@ ghost use Rattle.obf_wire.specs.KnownKeys.{IsInside};
 ghost use Rattle.obf_reader.specs.Tops.{IsTop};
 
 use file_grammar::{Part, form};
-use obf_wire::{Cursor, Field};
+use obf_wire::{Cursor, Field, Window};
 
 /// The keys of the fields of a file, in their order.
 const VERSION: u64 = 8;
@@ -85,7 +85,7 @@ fn is_form(part: Part, bytes: &[u8], field: &Field) -> bool
     requires within { field.now.to ≤ length bytes.now }
     ensures { result ≡ true → break_in (message_at part (record { bytes = bytes.now; place = field.now.from; end = field.now.to })) ≡ None }
 {
-    form(part, bytes, field.from, field.to).is_ok()
+    form(part, Window::new(bytes, field.from, field.to)).is_ok()
 }
 
 /// The field of this key that stands there.
@@ -96,7 +96,7 @@ fn keyed(bytes: &[u8], at: usize, key: u64) -> Option<Field>
     ensures key { IfSome result (λ f. f.key ≡ key) }
     ensures inside { IfSome result (IsInside (record { bytes = bytes.now; place = at; end = length bytes.now })) }
 {
-    let mut cursor = Cursor::new(bytes, at, bytes.len());
+    let mut cursor = Cursor::new(Window::new(bytes, at, bytes.len()));
     match cursor.next_field(&[key], false) {
         Ok(Some(field)) => field_of(field, key),
         Ok(None) => None,

@@ -1,0 +1,5 @@
+use Rattle.file_grammar.proofs.StatedTables.{tables_stated}
+use Rattle.file_grammar.proofs.tables.tables_are_stated.Goals as goal
+
+pub returns : goal.returns
+returns c = tables_stated
