@@ -15,7 +15,7 @@ use Rattle.obf_wire.specs.Varint as X
 use Rattle.obf_wire.specs.Varint.{varint, varint_in}
 use Rattle.box_tree.specs.Packing.{code, interleave}
 use Rattle.file_grammar.specs.declared.parts.Boxed.TheVariants.{Poi}
-use Rattle.file_grammar.specs.declared.parts.Part.TheVariants.{Boxes}
+use Rattle.file_grammar.specs.declared.parts.Part.TheVariants.{Boxes, Pois}
 use Rattle.file_grammar.specs.BoxRules.{Beside, section_facts}
 use Rattle.file_grammar.specs.Facts.{failing}
 use Rattle.file_grammar.specs.Messages.{Fields, ends, has_number, has_bytes, has_numbers, has_message}
@@ -212,3 +212,41 @@ without_a_block = refl
 records : poi_records_in (group 0 (codes "bar") (boxes 29 281474976710657) (group 200 (codes "cafe") (boxes 229 1407374883553281) ends))
     ≡ poi Node 1 (codes "bar") [] 1 1 ∷ poi Way 1 (codes "cafe") [] 1 1 ∷ []
 records = refl
+
+-- ---- the bytes of groups
+
+abbrev all_of_groups : Result Fields FileBreak → List FileBreak
+all_of_groups (Err b) = b ∷ []
+all_of_groups (Ok fields) = all_groups fields
+
+abbrev records_of : Result Fields FileBreak → List PoiRec
+records_of (Err b) = []
+records_of (Ok fields) = poi_records_in fields
+
+-- a group with the section above
+abbrev one_group : List ℕ → ℕ → List ℕ
+one_group category name =
+    let boxed = section node name (2 ∷ 2 ∷ []) in
+    (14 ∷ wide (2 + length category + 9 + length boxed)) ++ (10 ∷ length category ∷ category) ++ (22 ∷ wide (length boxed)) ++ boxed
+
+read_groups : records_of (message_at Pois (in_memory (one_group (codes "bar") 0 ++ one_group (codes "cafe") 0))) ≡ poi Node 1 (codes "bar") [] 1 1 ∷ poi Node 1 (codes "cafe") [] 1 1 ∷ []
+unfolding message_from field_at varint_in
+read_groups = refl
+
+no_groups : all_of_groups (message_at Pois (in_memory [])) ≡ []
+unfolding message_from field_at varint_in groups_facts
+no_groups = refl
+
+-- the second group stands at 76, its category at 85, and the number of its name at 146
+groups_break : all_of_groups (message_at Pois (in_memory (one_group (codes "bar") 0 ++ one_group (codes "Bar") 1))) ≡ at 76 kinds.BadOrder ∷ at 85 kinds.BadText ∷ at 146 kinds.BadRef ∷ []
+unfolding message_from field_at varint_in groups_facts section_facts is_utf8 chars encode
+groups_break = refl
+
+-- a group without its category, and a category without its records
+no_category_field : message_at Pois (in_memory ((14 ∷ wide 9) ++ (22 ∷ wide 0))) ≡ Err (at 9 kinds.BadKey)
+unfolding message_from field_at varint_in
+no_category_field = refl
+
+category_alone : message_at Pois (in_memory ((14 ∷ wide 3) ++ (10 ∷ 1 ∷ 97 ∷ []))) ≡ Err (at 12 kinds.Short)
+unfolding message_from field_at varint_in
+category_alone = refl

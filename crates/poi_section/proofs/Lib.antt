@@ -1,4 +1,5 @@
 pub mod Groups
+pub mod GroupWalk
 pub mod Ordered
 pub mod RecordShape
 pub mod RecordFacts

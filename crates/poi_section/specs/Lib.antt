@@ -1,5 +1,6 @@
 pub mod EntryFacts
 pub mod Fields
+pub mod Groups
 pub mod Laws
 pub mod Packed
 pub mod PoiOrder

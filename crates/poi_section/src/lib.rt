@@ -4,19 +4,26 @@
 //! any section of boxed records, and a record does not spell its category again. `specs/Packed.antt` says which bytes are
 //! written. What has to hold, and which records a section is, is said by the definitions of `file_grammar`.
 //!
-//! The layer above may rely on this: `write` appends exactly the packed bytes, or nothing.
+//! The layer above may rely on this: `write` appends exactly the packed bytes, or nothing; `PoiClass` checks each rule of a record
+//! exactly; where `see_groups` finds groups good, their form is good, every rule holds, and what it keeps of them is so; and what
+//! is packed of records of one category is good, and read as the same records.
 #![tactic(auto)]
 
+mod categories;
 mod checking;
 mod class;
 mod entries;
+mod kept;
 mod laws;
+mod one_pass;
 mod record_rules;
 mod writing;
 
 pub use class::PoiClass;
+pub use kept::{GroupKept, PoisKept};
 pub use laws::{
     any_order_packs_the_same, grouping_keeps_each_record, packed_categories_are_good,
     sound_categories_fit,
 };
+pub use one_pass::see_groups;
 pub use writing::write;
