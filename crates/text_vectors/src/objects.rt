@@ -1,7 +1,7 @@
 //! Lines of objects, their canonical texts, and stores.
 
 use entity_store::{Look, Store};
-use live_model::{Entity, Line};
+use live_model::{Entity, Line, Mem};
 use opl_reader::{OplError, read_all};
 use opl_writer::{put_line, write};
 use std::alloc::Global;
@@ -81,12 +81,12 @@ fn whole(alloc: Global, fields: &mut Fields<'_>, out: &mut Answer) -> Result<(),
 }
 
 /// The canonical lines of the objects of a store.
-fn written(alloc: Global, store: &Store) -> Result<Vec<u8>, RowError> {
+fn written(alloc: Global, store: &Store) -> Mem<Vec<u8>> {
     let mut objects = Vec::new(alloc);
     for object in store.entities() {
         objects.push(object.copy(alloc)?)?;
     }
-    Ok(write(alloc, &objects)?)
+    write(alloc, &objects)
 }
 
 /// Puts the canonical line of an object, or `none`.
