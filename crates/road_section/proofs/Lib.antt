@@ -4,3 +4,5 @@ pub mod PlacedNumbers
 pub mod RecordShape
 pub mod StopWalk
 pub mod StraightLines
+pub mod Parts
+pub mod PackedSection

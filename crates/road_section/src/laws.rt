@@ -5,6 +5,7 @@ ghost use Rattle.file_grammar.specs.RoadRules.{ban_boxing, ban_read, road_boxing
 ghost use Rattle.file_grammar.specs.declared.parts.Boxed.TheVariants.{Restriction, Road};
 ghost use Rattle.road_section.specs.RoadLawful.{road_bare, road_lawful};
 ghost use Rattle.road_section.specs.BanLawful.{FitsAnyRules, ban_bare, ban_lawful};
+ghost use Rattle.road_section.specs.Routing.{PackedRoutingLaw, PackedRoutingReadLaw};
 ghost use Rattle.road_section.specs.Laws.{AnyOrderLaw, FittingLaw, KeptLaw, PackedLaw, PackedReadLaw};
 
 use crate::ban_class::BanClass;
@@ -68,4 +69,11 @@ pub fn packing_keeps_each_record()
 /// That records are packed to the same bytes in whatever order they are given.
 pub fn any_order_packs_the_same()
     ensures { AnyOrderLaw }
+{}
+
+/// That what is packed of roads and restrictions that fit the rules is one section of these records, in the order of its
+/// blocks, and that every rule holds of it. Read in memory, it gives these records, and no rule fails.
+pub fn packed_routing_is_good()
+    ensures spelled { PackedRoutingLaw }
+    ensures read { PackedRoutingReadLaw }
 {}

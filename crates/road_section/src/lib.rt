@@ -18,13 +18,15 @@ mod road_checking;
 mod road_class;
 mod road_entries;
 mod road_rules;
+mod section;
 mod stops;
 mod writing;
 
 pub use ban_class::BanClass;
 pub use laws::{
-    any_order_packs_the_same, packed_sections_are_good, packing_keeps_each_record,
-    sound_sections_fit,
+    any_order_packs_the_same, packed_routing_is_good, packed_sections_are_good,
+    packing_keeps_each_record, sound_sections_fit,
 };
 pub use road_class::RoadClass;
+pub use section::{Kept, Spans, check, check_exactly, see, survey};
 pub use writing::write;
