@@ -31,7 +31,7 @@ use Rattle.file_grammar.specs.Sections.{section_in}
 use Rattle.boxed_write.specs.Packed.{packed, block}
 use Rattle.road_section.specs.Restrictions.{packed_bans}
 use Rattle.road_section.specs.Roads.{packed_roads, road_packing}
-use Rattle.road_section.specs.Routing.{packed_routing}
+use Rattle.road_section.specs.Routing.{packed_routing, routing_break}
 
 abbrev node_at : ℤ → ℕ → ℕ → RoadNode
 node_at id x y = record { id = id; point = record { x = x; y = y } }
@@ -329,3 +329,37 @@ restriction_read_again : bans_of (message_at (Boxes Restriction) (all_of (14 ∷
     ≡ record { id = relation 9; value = codes "b"; from = pos 20; via = pos 4; to = negsuc 20; point = record { x = 3; y = 2 } } ∷ []
 unfolding message_from field_at varint_in
 restriction_read_again = refl
+
+-- an empty section
+no_roads : routing_break (record { rules = rules; marks = None }) (all_of (14 ∷ 0 ∷ 0 ∷ 0 ∷ 0 ∷ 0 ∷ 0 ∷ 0 ∷ 9 ∷ 14 ∷ 0 ∷ 0 ∷ 0 ∷ 0 ∷ 0 ∷ 0 ∷ 0 ∷ 0 ∷ 22 ∷ 0 ∷ 0 ∷ 0 ∷ 0 ∷ 0 ∷ 0 ∷ 0 ∷ 9 ∷ 14 ∷ 0 ∷ 0 ∷ 0 ∷ 0 ∷ 0 ∷ 0 ∷ 0 ∷ 0 ∷ []))
+    ≡ None
+unfolding message_from field_at varint_in section_facts is_utf8 chars encode
+no_roads = refl
+
+both_good : routing_break (record { rules = rules; marks = None }) (all_of (14 ∷ 0 ∷ 0 ∷ 0 ∷ 0 ∷ 0 ∷ 0 ∷ 0 ∷ 68 ∷ 14 ∷ 0 ∷ 0 ∷ 0 ∷ 0 ∷ 0 ∷ 0 ∷ 0 ∷ 10 ∷ 8 ∷ 0 ∷ 16 ∷ 0 ∷ 24 ∷ 9 ∷ 32 ∷ 9 ∷ 40 ∷ 0 ∷ 22 ∷ 0 ∷ 0 ∷ 0 ∷ 0 ∷ 0 ∷ 0 ∷ 0 ∷ 40 ∷ 14 ∷ 0 ∷ 0 ∷ 0 ∷ 0 ∷ 0 ∷ 0 ∷ 0 ∷ 6 ∷ 10 ∷ 1 ∷ 97 ∷ 10 ∷ 1 ∷ 98 ∷ 18 ∷ 23 ∷ 8 ∷ 148 ∷ 128 ∷ 128 ∷ 128 ∷ 128 ∷ 128 ∷ 192 ∷ 2 ∷ 16 ∷ 0 ∷ 24 ∷ 1 ∷ 32 ∷ 0 ∷ 42 ∷ 6 ∷ 2 ∷ 0 ∷ 0 ∷ 2 ∷ 2 ∷ 2 ∷ 22 ∷ 0 ∷ 0 ∷ 0 ∷ 0 ∷ 0 ∷ 0 ∷ 0 ∷ 63 ∷ 14 ∷ 0 ∷ 0 ∷ 0 ∷ 0 ∷ 0 ∷ 0 ∷ 0 ∷ 10 ∷ 8 ∷ 0 ∷ 16 ∷ 0 ∷ 24 ∷ 9 ∷ 32 ∷ 9 ∷ 40 ∷ 0 ∷ 22 ∷ 0 ∷ 0 ∷ 0 ∷ 0 ∷ 0 ∷ 0 ∷ 0 ∷ 35 ∷ 14 ∷ 0 ∷ 0 ∷ 0 ∷ 0 ∷ 0 ∷ 0 ∷ 0 ∷ 3 ∷ 10 ∷ 1 ∷ 98 ∷ 18 ∷ 21 ∷ 8 ∷ 137 ∷ 128 ∷ 128 ∷ 128 ∷ 128 ∷ 128 ∷ 192 ∷ 4 ∷ 16 ∷ 1 ∷ 24 ∷ 40 ∷ 32 ∷ 8 ∷ 40 ∷ 41 ∷ 50 ∷ 2 ∷ 6 ∷ 4 ∷ []))
+    ≡ None
+unfolding message_from field_at varint_in section_facts is_utf8 chars encode
+both_good = refl
+
+-- a rule of a road fails, and one of a restriction behind it
+roads_break_first : routing_break (record { rules = rules; marks = None }) (all_of (14 ∷ 0 ∷ 0 ∷ 0 ∷ 0 ∷ 0 ∷ 0 ∷ 0 ∷ 68 ∷ 14 ∷ 0 ∷ 0 ∷ 0 ∷ 0 ∷ 0 ∷ 0 ∷ 0 ∷ 10 ∷ 8 ∷ 0 ∷ 16 ∷ 0 ∷ 24 ∷ 9 ∷ 32 ∷ 9 ∷ 40 ∷ 0 ∷ 22 ∷ 0 ∷ 0 ∷ 0 ∷ 0 ∷ 0 ∷ 0 ∷ 0 ∷ 40 ∷ 14 ∷ 0 ∷ 0 ∷ 0 ∷ 0 ∷ 0 ∷ 0 ∷ 0 ∷ 6 ∷ 10 ∷ 1 ∷ 97 ∷ 10 ∷ 1 ∷ 98 ∷ 18 ∷ 23 ∷ 8 ∷ 148 ∷ 128 ∷ 128 ∷ 128 ∷ 128 ∷ 128 ∷ 192 ∷ 2 ∷ 16 ∷ 0 ∷ 24 ∷ 1 ∷ 32 ∷ 3 ∷ 42 ∷ 6 ∷ 2 ∷ 0 ∷ 0 ∷ 2 ∷ 2 ∷ 2 ∷ 22 ∷ 0 ∷ 0 ∷ 0 ∷ 0 ∷ 0 ∷ 0 ∷ 0 ∷ 63 ∷ 14 ∷ 0 ∷ 0 ∷ 0 ∷ 0 ∷ 0 ∷ 0 ∷ 0 ∷ 10 ∷ 8 ∷ 0 ∷ 16 ∷ 0 ∷ 24 ∷ 9 ∷ 32 ∷ 9 ∷ 40 ∷ 0 ∷ 22 ∷ 0 ∷ 0 ∷ 0 ∷ 0 ∷ 0 ∷ 0 ∷ 0 ∷ 35 ∷ 14 ∷ 0 ∷ 0 ∷ 0 ∷ 0 ∷ 0 ∷ 0 ∷ 0 ∷ 3 ∷ 10 ∷ 1 ∷ 98 ∷ 18 ∷ 21 ∷ 8 ∷ 137 ∷ 128 ∷ 128 ∷ 128 ∷ 128 ∷ 128 ∷ 192 ∷ 4 ∷ 16 ∷ 2 ∷ 24 ∷ 40 ∷ 32 ∷ 8 ∷ 40 ∷ 41 ∷ 50 ∷ 2 ∷ 6 ∷ 4 ∷ []))
+    ≡ Some (at 67 kinds.BadRef)
+unfolding message_from field_at varint_in section_facts is_utf8 chars encode
+roads_break_first = refl
+
+restriction_breaks : routing_break (record { rules = rules; marks = None }) (all_of (14 ∷ 0 ∷ 0 ∷ 0 ∷ 0 ∷ 0 ∷ 0 ∷ 0 ∷ 68 ∷ 14 ∷ 0 ∷ 0 ∷ 0 ∷ 0 ∷ 0 ∷ 0 ∷ 0 ∷ 10 ∷ 8 ∷ 0 ∷ 16 ∷ 0 ∷ 24 ∷ 9 ∷ 32 ∷ 9 ∷ 40 ∷ 0 ∷ 22 ∷ 0 ∷ 0 ∷ 0 ∷ 0 ∷ 0 ∷ 0 ∷ 0 ∷ 40 ∷ 14 ∷ 0 ∷ 0 ∷ 0 ∷ 0 ∷ 0 ∷ 0 ∷ 0 ∷ 6 ∷ 10 ∷ 1 ∷ 97 ∷ 10 ∷ 1 ∷ 98 ∷ 18 ∷ 23 ∷ 8 ∷ 148 ∷ 128 ∷ 128 ∷ 128 ∷ 128 ∷ 128 ∷ 192 ∷ 2 ∷ 16 ∷ 0 ∷ 24 ∷ 1 ∷ 32 ∷ 0 ∷ 42 ∷ 6 ∷ 2 ∷ 0 ∷ 0 ∷ 2 ∷ 2 ∷ 2 ∷ 22 ∷ 0 ∷ 0 ∷ 0 ∷ 0 ∷ 0 ∷ 0 ∷ 0 ∷ 63 ∷ 14 ∷ 0 ∷ 0 ∷ 0 ∷ 0 ∷ 0 ∷ 0 ∷ 0 ∷ 10 ∷ 8 ∷ 0 ∷ 16 ∷ 0 ∷ 24 ∷ 9 ∷ 32 ∷ 9 ∷ 40 ∷ 0 ∷ 22 ∷ 0 ∷ 0 ∷ 0 ∷ 0 ∷ 0 ∷ 0 ∷ 0 ∷ 35 ∷ 14 ∷ 0 ∷ 0 ∷ 0 ∷ 0 ∷ 0 ∷ 0 ∷ 0 ∷ 3 ∷ 10 ∷ 1 ∷ 98 ∷ 18 ∷ 21 ∷ 8 ∷ 137 ∷ 128 ∷ 128 ∷ 128 ∷ 128 ∷ 128 ∷ 192 ∷ 4 ∷ 16 ∷ 2 ∷ 24 ∷ 40 ∷ 32 ∷ 8 ∷ 40 ∷ 41 ∷ 50 ∷ 2 ∷ 6 ∷ 4 ∷ []))
+    ≡ Some (at 137 kinds.BadRef)
+unfolding message_from field_at varint_in section_facts is_utf8 chars encode
+restriction_breaks = refl
+
+-- a rule of a road fails, but behind it the form breaks at a key
+form_breaks_first : routing_break (record { rules = rules; marks = None }) (all_of (14 ∷ 0 ∷ 0 ∷ 0 ∷ 0 ∷ 0 ∷ 0 ∷ 0 ∷ 68 ∷ 14 ∷ 0 ∷ 0 ∷ 0 ∷ 0 ∷ 0 ∷ 0 ∷ 0 ∷ 10 ∷ 8 ∷ 0 ∷ 16 ∷ 0 ∷ 24 ∷ 9 ∷ 32 ∷ 9 ∷ 40 ∷ 0 ∷ 22 ∷ 0 ∷ 0 ∷ 0 ∷ 0 ∷ 0 ∷ 0 ∷ 0 ∷ 40 ∷ 14 ∷ 0 ∷ 0 ∷ 0 ∷ 0 ∷ 0 ∷ 0 ∷ 0 ∷ 6 ∷ 10 ∷ 1 ∷ 97 ∷ 10 ∷ 1 ∷ 98 ∷ 18 ∷ 23 ∷ 8 ∷ 148 ∷ 128 ∷ 128 ∷ 128 ∷ 128 ∷ 128 ∷ 192 ∷ 2 ∷ 16 ∷ 0 ∷ 24 ∷ 1 ∷ 32 ∷ 3 ∷ 42 ∷ 6 ∷ 2 ∷ 0 ∷ 0 ∷ 2 ∷ 2 ∷ 2 ∷ 22 ∷ 0 ∷ 0 ∷ 0 ∷ 0 ∷ 0 ∷ 0 ∷ 0 ∷ 63 ∷ 13 ∷ 0 ∷ 0 ∷ 0 ∷ 0 ∷ 0 ∷ 0 ∷ 0 ∷ 10 ∷ 8 ∷ 0 ∷ 16 ∷ 0 ∷ 24 ∷ 9 ∷ 32 ∷ 9 ∷ 40 ∷ 0 ∷ 22 ∷ 0 ∷ 0 ∷ 0 ∷ 0 ∷ 0 ∷ 0 ∷ 0 ∷ 35 ∷ 14 ∷ 0 ∷ 0 ∷ 0 ∷ 0 ∷ 0 ∷ 0 ∷ 0 ∷ 3 ∷ 10 ∷ 1 ∷ 98 ∷ 18 ∷ 21 ∷ 8 ∷ 137 ∷ 128 ∷ 128 ∷ 128 ∷ 128 ∷ 128 ∷ 192 ∷ 4 ∷ 16 ∷ 1 ∷ 24 ∷ 40 ∷ 32 ∷ 8 ∷ 40 ∷ 41 ∷ 50 ∷ 2 ∷ 6 ∷ 4 ∷ []))
+    ≡ Some (at 86 kinds.BadKey)
+unfolding message_from field_at varint_in section_facts is_utf8 chars encode
+form_breaks_first = refl
+
+-- the section ends behind the roads
+no_restrictions : routing_break (record { rules = rules; marks = None }) (all_of (14 ∷ 0 ∷ 0 ∷ 0 ∷ 0 ∷ 0 ∷ 0 ∷ 0 ∷ 68 ∷ 14 ∷ 0 ∷ 0 ∷ 0 ∷ 0 ∷ 0 ∷ 0 ∷ 0 ∷ 10 ∷ 8 ∷ 0 ∷ 16 ∷ 0 ∷ 24 ∷ 9 ∷ 32 ∷ 9 ∷ 40 ∷ 0 ∷ 22 ∷ 0 ∷ 0 ∷ 0 ∷ 0 ∷ 0 ∷ 0 ∷ 0 ∷ 40 ∷ 14 ∷ 0 ∷ 0 ∷ 0 ∷ 0 ∷ 0 ∷ 0 ∷ 0 ∷ 6 ∷ 10 ∷ 1 ∷ 97 ∷ 10 ∷ 1 ∷ 98 ∷ 18 ∷ 23 ∷ 8 ∷ 148 ∷ 128 ∷ 128 ∷ 128 ∷ 128 ∷ 128 ∷ 192 ∷ 2 ∷ 16 ∷ 0 ∷ 24 ∷ 1 ∷ 32 ∷ 0 ∷ 42 ∷ 6 ∷ 2 ∷ 0 ∷ 0 ∷ 2 ∷ 2 ∷ 2 ∷ []))
+    ≡ Some (at 77 kinds.Short)
+unfolding message_from field_at varint_in section_facts is_utf8 chars encode
+no_restrictions = refl
