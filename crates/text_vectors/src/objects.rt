@@ -67,26 +67,27 @@ fn whole(alloc: Global, fields: &mut Fields<'_>, out: &mut Answer) -> Result<(),
     let built = Store::build(alloc, &lines)?;
     let moved = Store::from_lines(alloc, lines)?;
     shared(&moved);
-    let text = written(alloc, &built)?;
-    out.number(moved.entities().count() as u64)?;
+    let objects = objects_of(alloc, &moved)?;
+    let text = write(alloc, &objects_of(alloc, &built)?)?;
+    out.number(objects.len() as u64)?;
     out.agreed(
         moved.next_after(None).is_none(),
         built.next_after(None).is_none(),
     )?;
     out.quoted(&text)?;
-    if text.as_slice() != written(alloc, &moved)?.as_slice() {
+    if text.as_slice() != write(alloc, &objects)?.as_slice() {
         out.word("the two differ")?;
     }
     Ok(())
 }
 
-/// The canonical lines of the objects of a store.
-fn written(alloc: Global, store: &Store) -> Mem<Vec<u8>> {
+/// The objects of a store, in order.
+fn objects_of(alloc: Global, store: &Store) -> Mem<Vec<Entity>> {
     let mut objects = Vec::new(alloc);
     for object in store.entities() {
         objects.push(object.copy(alloc)?)?;
     }
-    write(alloc, &objects)
+    Ok(objects)
 }
 
 /// Puts the canonical line of an object, or `none`.
