@@ -45,7 +45,7 @@ fn two_layers_are_a_map(rt: HostRuntime) -> Result<(), Fail> {
     assert_eq!(rt; table.depth(), 1);
     assert!(rt; table.spare() >= spare);
     assert_eq!(rt; (at(&table, 1), at(&table, 2), at(&table, 3)), (0, 20, 30));
-    assert_eq!(rt; table.values().count(), 2);
+    assert!(rt; table.next_after(Some(&3)).is_none());
     Ok(())
 }
 

@@ -43,7 +43,7 @@ fn a_node_that_moves_forty_times(rt: HostRuntime) -> Result<(), Fail> {
         store.commit(staged);
         assert_eq!(rt; place(&Look::now(&store), 1), x);
     }
-    assert_eq!(rt; store.entities().count(), 1);
+    assert!(rt; store.next_after(Some(&id(1)?)).is_none());
     Ok(())
 }
 
@@ -85,7 +85,6 @@ fn a_node_is_moved_and_removed_in_one_list(rt: HostRuntime) -> Result<(), Fail> 
     let now = Look::now(&store);
     assert!(rt; now.node(2).is_none());
     assert_eq!(rt; place(&now, 1), 8);
-    assert_eq!(rt; store.entities().count(), 1);
     assert!(rt; store.next_after(Some(&id(1)?)).is_none());
     Ok(())
 }
