@@ -15,7 +15,7 @@ use Rattle.live_model.specs.Ids.{Id, ordinal}
 use Rattle.live_model.specs.declared.objects.Member.{Member}
 use Rattle.live_model.specs.Closures.{node_id, refers_to}
 use Rattle.live_model.specs.Users.{is_among, refers, users_of}
-use Rattle.ref_index.specs.Pairs.{rising_numbers, targets_of, pairs_in, users_at}
+use Rattle.ref_index.specs.Pairs.{rising_numbers, pairs_for, pairs_in, users_at, has_any}
 
 map_append : {A B : Type 0} (f : A → B) (xs ys : List A) → map f (xs ++ ys) ≡ map f xs ++ map f ys
 map_append f [] ys = refl
@@ -25,13 +25,13 @@ pub parts_zipped : (ps : List (ℕ × Id)) → zip (map key_of ps) (map value_of
 parts_zipped [] = refl
 parts_zipped (p ∷ ps) = ap (λ qs. p ∷ qs) (parts_zipped ps)
 
-users_append : (k : ℕ) (ps qs : List (ℕ × Id)) → users_at k (ps ++ qs) ≡ users_at k ps ++ users_at k qs
+pub users_append : (k : ℕ) (ps qs : List (ℕ × Id)) → users_at k (ps ++ qs) ≡ users_at k ps ++ users_at k qs
 users_append k ps qs =
     ap (map value_of) (filter-append (λ (p : ℕ × Id). key_of p == k) ps qs) ∙ map_append value_of (filter (λ (p : ℕ × Id). key_of p == k) ps) (filter (λ (p : ℕ × Id). key_of p == k) qs)
 
 -- ---- the pairs of one object
 
-same_test : (k n : ℕ) → is_eq (nat_cmp k n) ≡ (n == k)
+pub same_test : (k n : ℕ) → is_eq (nat_cmp k n) ≡ (n == k)
 same_test k n = grind (arith, nat_tests)
 
 one_left : (c : Id) (n : ℕ) (ns : List ℕ) → map (λ (m : ℕ). c) (last_alone (n ∷ []) ns) ≡ c ∷ []
@@ -57,20 +57,21 @@ with_user k c (t ∷ ts) = one (t == k) (with_user k c ts)
     one true again = ap (λ us. c ∷ us) again
     one false again = again
 
-own_pairs : (id : Id) (e : Entity) → users_at (ordinal id) (pairs_in e) ≡ cond (refers id e) (e.id ∷ []) []
-own_pairs id e =
-    with_user (ordinal id) e.id (targets_of e)
-    ∙ ap (map (λ (m : ℕ). e.id))
-    (sym (filter_alike (λ n. is_eq (nat_cmp (ordinal id) n)) (λ n. n == ordinal id) (targets_of e) (same_test (ordinal id)))
-    ∙ put_all_same nat_cmp (λ n. n) nat_cmp_total (ordinal id) [] (map ordinal (refers_to e))
-    ∙ ap (last_alone []) (filter_alike (λ n. is_eq (nat_cmp (ordinal id) n)) (λ n. n == ordinal id) (map ordinal (refers_to e)) (same_test (ordinal id))))
-    ∙ one_or_none (ordinal id) e.id (refers_to e)
+-- an id with which pairs of other ids stand is the user of each of them, once
+pub own_pairs : (id user : Id) (ids : List Id) → users_at (ordinal id) (pairs_for user ids) ≡ cond (is_among ids id) (user ∷ []) []
+own_pairs id user ids =
+    with_user (ordinal id) user (rising_numbers (map ordinal ids))
+    ∙ ap (map (λ (m : ℕ). user))
+    (sym (filter_alike (λ n. is_eq (nat_cmp (ordinal id) n)) (λ n. n == ordinal id) (rising_numbers (map ordinal ids)) (same_test (ordinal id)))
+    ∙ put_all_same nat_cmp (λ n. n) nat_cmp_total (ordinal id) [] (map ordinal ids)
+    ∙ ap (last_alone []) (filter_alike (λ n. is_eq (nat_cmp (ordinal id) n)) (λ n. n == ordinal id) (map ordinal ids) (same_test (ordinal id))))
+    ∙ one_or_none (ordinal id) user ids
 
 -- the pairs of the objects of a store have the users of each id
 pub all_pairs : (id : Id) (es : List Entity) → users_at (ordinal id) (flat_map pairs_in es) ≡ users_of es id
 all_pairs id [] = refl
 all_pairs id (e ∷ es) =
-    users_append (ordinal id) (pairs_in e) (flat_map pairs_in es) ∙ (λ i. own_pairs id e i ++ all_pairs id es i) ∙ one (refers id e)
+    users_append (ordinal id) (pairs_in e) (flat_map pairs_in es) ∙ (λ i. own_pairs id e.id (refers_to e) i ++ all_pairs id es i) ∙ one (refers id e)
   where
     one : (b : Bool) → cond b (e.id ∷ []) [] ++ users_of es id ≡ map (λ x. x.id) (cond b (e ∷ filter (refers id) es) (filter (refers id) es))
     one true = refl
@@ -174,3 +175,20 @@ keys_rise ps up = keys_far ps (node_id (pos 0)) up
 pub parts_long : (ps : List (ℕ × Id)) → length (map key_of ps) ≡ length (map value_of ps)
 parts_long [] = refl
 parts_long (p ∷ ps) = let rest = parts_long ps in omega (arith, rest)
+
+-- the first parts of two lists side by side
+pub first_parts : (ks : List ℕ) (us : List Id) → length ks ≡ length us → map key_of (zip ks us) ≡ ks
+first_parts [] [] same = refl
+first_parts [] (u ∷ us) same = refl
+first_parts (k ∷ ks) [] same = absurd (omega (arith, same))
+first_parts (k ∷ ks) (u ∷ us) same = ap (λ ns. k ∷ ns) (first_parts ks us (omega (arith, same)))
+
+-- a key that no pair has
+pub none_at : (k : ℕ) (ps : List (ℕ × Id)) → list_any (λ n. n == k) (map key_of ps) ≡ false → users_at k ps ≡ []
+none_at k [] none = refl
+none_at k (p ∷ ps) none = one (key_of p == k) none (none_at k ps)
+  where
+    one : (b : Bool) → (b || list_any (λ n. n == k) (map key_of ps)) ≡ false → (list_any (λ n. n == k) (map key_of ps) ≡ false → users_at k ps ≡ [])
+        → map value_of (cond b (p ∷ filter (λ (p : ℕ × Id). key_of p == k) ps) (filter (λ (p : ℕ × Id). key_of p == k) ps)) ≡ []
+    one true none again = absurd (cc)
+    one false none again = again none

@@ -1,22 +1,16 @@
-use Rattle.std.proofs.Common.{◌≡◌, ◌∙◌, ap, sym, subst, arith, length, map, zip}
-use Rattle.std.specs.List.Sorted.{IsNonDecreasingBy}
-use Rattle.layer_table.specs.Layers.{value_of}
-use Rattle.live_model.specs.Ids.{ordinal}
+use Rattle.std.proofs.Common.{◌≡◌, ◌∙◌, [], ap, sym, subst}
+use Rattle.std.specs.Ordering.{nat_cmp}
+use Rattle.ordered_lists.specs.Ordered.{put_all}
+use Rattle.layer_table.specs.Layers.{key_of, laid}
 use Rattle.ref_index.specs.Pairs.{users_at}
-use Rattle.ref_index.proofs.Pairing.{all_pairs, keys_rise, parts_long, parts_zipped}
+use Rattle.ref_index.specs.Indexes.{Indexes}
+use Rattle.ref_index.proofs.Following.{built}
 use Rattle.ref_index.proofs.index.RefIndex.build.Goals as goal
 
-pub invariant_of-result : goal.invariant_of-result
-invariant_of-result c =
-    let long = parts_long c.sort.new.pairs.items in
-    let first = ap length c.in_ok-targets.ensures.first in
-    let second = ap length c.in_ok-targets.ensures.second in
-    (omega (arith, long, first, second, c.in_ok-targets.targets.ok.0, c.in_ok-targets.users.ok.0), subst (IsNonDecreasingBy (λ n. n)) (sym c.in_ok-targets.ensures.first) (keys_rise c.sort.new.pairs.items c.in_ok-sort.ensures.rising))
-
-pub returns : goal.returns
-returns c = λ id.
-    (λ i. users_at (ordinal id) (zip (c.in_ok-targets.ensures.first i) (c.in_ok-targets.ensures.second i)))
-    ∙ ap (users_at (ordinal id)) (parts_zipped c.sort.new.pairs.items)
-    ∙ ap (map value_of) (c.in_ok-sort.ensures.turns (ordinal id))
-    ∙ ap (users_at (ordinal id)) c.in_ok-pairs.ensures
-    ∙ all_pairs id c.args.store.now.entities
+pub returns-clause-index : goal.returns-clause-index
+returns-clause-index c =
+    let store = c.args.store.now.entities in
+    let bottom = c.in_ok-reserve_layer.ensures.map ∙ c.new-table.ensures.map in
+    let layer = c.in_ok-layer.ensures ∙ ap (put_all nat_cmp key_of []) c.in_ok-lists.ensures in
+    subst (λ m. Indexes m store) (sym (c.push_layer.ensures.map ∙ (λ i. laid nat_cmp (bottom i) (layer i))))
+    (built store c.in_ok-pairs.pairs (λ k. c.in_ok-pairs.ensures k ∙ ap (users_at k) c.in_ok-found.ensures))

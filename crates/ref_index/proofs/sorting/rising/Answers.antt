@@ -8,7 +8,7 @@ use Rattle.std.proofs.lemmas.Fn.{dedup_same}
 use Rattle.std.proofs.lemmas.List.MinMax.{ranks_by}
 use Rattle.std.proofs.lemmas.List.Sorted.{answers_always}
 use Rattle.ordered_lists.proofs.PutAll.{put_all-sorted}
-use Rattle.ref_index.proofs.pairs.rising.Goals as goal
+use Rattle.ref_index.proofs.sorting.rising.Goals as goal
 
 pub returns : goal.returns
 returns c =

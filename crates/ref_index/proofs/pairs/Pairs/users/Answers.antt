@@ -3,11 +3,11 @@ use Rattle.std.specs.List.Sorted.{IsNonDecreasingBy, IsPartitionPoint}
 use Rattle.std.proofs.lemmas.List.Sorted.{IsPartitionPoint-from_clause, IsPartitionedBy-ltb, IsPartitionedBy-leb}
 use Rattle.ref_index.specs.Pairs.{users_at}
 use Rattle.ref_index.proofs.Pairing.{from_to, part_between}
-use Rattle.ref_index.proofs.index.RefIndex.users.Goals as goal
+use Rattle.ref_index.proofs.pairs.Pairs.users.Goals as goal
 
 pub between-requires-clause-rising : goal.between-requires-clause-rising
 between-requires-clause-rising c =
-    let k = c.ordinal-target.result in
+    let k = c.args.target in
     let ks = c.self.inside.targets.items in
     let up = subst (IsNonDecreasingBy (λ n. n)) (sym c.deref.ensures.value) c.self.invariant.1 in
     let up' = subst (IsNonDecreasingBy (λ n. n)) (sym c.deref-2.ensures.value) c.self.invariant.1 in
@@ -26,7 +26,7 @@ between-requires-clause-inside c =
 
 pub returns : goal.returns
 returns c =
-    let k = c.ordinal-target.result in
+    let k = c.args.target in
     let ks = c.self.inside.targets.items in
     let us = c.self.inside.users.items in
     let up = subst (IsNonDecreasingBy (λ n. n)) (sym c.deref.ensures.value) c.self.invariant.1 in
@@ -40,4 +40,4 @@ returns c =
     let same : length ks ≡ length us = omega (arith, c.self.invariant.0, c.self.inside.targets.ok.0, c.self.inside.users.ok.0) in
     c.between.ensures ∙ ap (λ xs. take (c.partition_point-to.result - c.partition_point-from.result) (drop c.partition_point-from.result xs)) c.deref-3.ensures.value
     ∙ part_between k ks us c.partition_point-from.result c.partition_point-to.result same in_to in_from low.0 low.1 high.0 high.1
-    ∙ ap (users_at k) c.self.view_is ∙ ap (λ n. users_at n c.args.self.now) c.ordinal-target.ensures.ordinal
+    ∙ ap (users_at k) c.self.view_is
