@@ -5,3 +5,4 @@ pub mod RecordShape
 pub mod RecordFacts
 pub mod PoiRead
 pub mod PackedPois
+pub mod PackedGroups

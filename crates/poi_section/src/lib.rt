@@ -6,7 +6,7 @@
 //!
 //! The layer above may rely on this: `write` appends exactly the packed bytes, or nothing; `PoiClass` checks each rule of a record
 //! exactly; where `see_groups` finds groups good, their form is good, every rule holds, and what it keeps of them is so; and what
-//! is packed of records of one category is good, and read as the same records.
+//! is packed of records that fit is good, and read as the same records.
 #![tactic(auto)]
 
 mod categories;
@@ -23,7 +23,7 @@ pub use class::PoiClass;
 pub use kept::{GroupKept, PoisKept};
 pub use laws::{
     any_order_packs_the_same, grouping_keeps_each_record, packed_categories_are_good,
-    sound_categories_fit,
+    packed_pois_are_good, sound_categories_fit, sound_pois_fit,
 };
 pub use one_pass::see_groups;
 pub use writing::write;
