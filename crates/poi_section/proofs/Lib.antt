@@ -1,5 +1,6 @@
 pub mod Groups
 pub mod GroupWalk
+pub mod GroupAsking
 pub mod Ordered
 pub mod RecordShape
 pub mod RecordFacts
