@@ -16,8 +16,8 @@ ghost use Rattle.poi_section.specs.Groups.{ArePoisKept, IsGroupAsked, IsPut, cat
 
 use crate::categories::is_category;
 use crate::class::PoiClass;
-use crate::one_pass::may_rise;
 use crate::kept::{GroupKept, PoisKept};
+use crate::one_pass::may_rise;
 use boxed_check::{Kept, check};
 use boxed_exact::{Around, Payload, next_payload};
 use file_grammar::{Boxed, FieldWalk, FirstBreak, Part};
