@@ -3,6 +3,7 @@ use Rattle.std.proofs.Common.{◌≡◌, ℕ, suc, ◌+◌, ◌≤◌, Bool, tru
 use Rattle.std.specs.Prelude.{◌&&◌, ◌||◌, not, nat_lt, slice_range}
 use Rattle.std.specs.Str.{is_utf8}
 use Rattle.std.specs.Ordering.{is_le}
+use Rattle.std.proofs.lemmas.Bool.Decides.{nat_tests}
 use Rattle.std.proofs.lemmas.List.{append-nil, length-map}
 use Rattle.live_model.specs.declared.records.PoiRec.{PoiRec}
 use Rattle.live_model.specs.Rules.{is_category}
@@ -71,7 +72,7 @@ groups_end beside w before kept count window none = record {
 }
 
 -- the order, by the category before
-category_follows : (prev : Option Group) (group : Group) → may_rise (category_before prev) group.category.value ≡ true → follows categories_rise (prev, group) ≡ true
+pub category_follows : (prev : Option Group) (group : Group) → may_rise (category_before prev) group.category.value ≡ true → follows categories_rise (prev, group) ≡ true
 category_follows None group h = refl
 category_follows (Some before) group h = h
 
@@ -118,6 +119,9 @@ pub kept_good : (beside : Beside) (w : Window) (kept : PoisKept) → ArePoisKept
 kept_good beside w kept k =
     let none : rules_break beside k.fields ≡ None = (one_first_break_law (groups_facts beside k.fields)).none.1 k.sound in
     ap (form_then (rules_break beside)) k.read ∙ none
+
+pub some_blocks : (block : Block) (blocks : List Block) → nat_lt 0 (length (block ∷ blocks)) ≡ true
+some_blocks block blocks = grind (arith, nat_tests)
 
 spans_some : (class : Boxed) (bytes : List ℕ) (spans : List Payload) (blocks : List Block) → AreSpans class bytes spans blocks → length spans ≡ length blocks
 spans_some class bytes [] [] are = refl

@@ -40,7 +40,7 @@ category_ties z (p ∷ ps) =
       | false ↦ category_ties z ps
     ]
 
-categories_rise : (ps : List PoiRec) → IsRisingBy text_cmp (λ c. c) (categories_of ps)
+pub categories_rise : (ps : List PoiRec) → IsRisingBy text_cmp (λ c. c) (categories_of ps)
 categories_rise ps = rising-put_all text_cmp (λ c. c) total [] (map of_poi ps) tt
 
 -- one of the categories that tie with a text is kept
@@ -82,7 +82,7 @@ below_other Less up other = refl
 below_other Equal up other = absurd (cc)
 below_other Greater up other = absurd (cc)
 
-eq_is : (r : Ordering) → is_eq r ≡ true → r ≡ Equal
+pub eq_is : (r : Ordering) → is_eq r ≡ true → r ≡ Equal
 eq_is Less e = absurd (cc)
 eq_is Equal e = refl
 eq_is Greater e = absurd (cc)
@@ -112,7 +112,7 @@ above_texts c [] all = tt
 above_texts c (p ∷ ps) all = (all.0, above_texts c ps all.1)
 
 -- what holds of texts holds of those that are put
-all_put : (P : Text → Type 0) (xs ys : List Text) → AllByRecursion P xs → AllByRecursion P ys → AllByRecursion P (put_all text_cmp (λ c. c) xs ys)
+pub all_put : (P : Text → Type 0) (xs ys : List Text) → AllByRecursion P xs → AllByRecursion P ys → AllByRecursion P (put_all text_cmp (λ c. c) xs ys)
 all_put P xs [] all others = all
 all_put P xs (y ∷ ys) all others =
     all_put P (put_by text_cmp (λ c. c) y xs) ys

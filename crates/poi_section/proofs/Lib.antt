@@ -1,7 +1,9 @@
 pub mod Groups
 pub mod GroupWalk
+pub mod GroupAsking
 pub mod Ordered
 pub mod RecordShape
 pub mod RecordFacts
 pub mod PoiRead
 pub mod PackedPois
+pub mod PackedGroups

@@ -1,5 +1,5 @@
 -- Groups of points of interest as they are checked, and what a check keeps of them.
-use Rattle.std.specs.Prelude.{◌≡◌, ◌+◌, ◌≤◌, ℕ, List, [], ◌∷◌, ◌++◌, Bool, true, ◌&&◌, ◌||◌, not, nat_lt, length, flat_map, slice_range, IsTrue, Option, Some, None, Ok}
+use Rattle.std.specs.Prelude.{◌≡◌, ◌+◌, ◌≤◌, ℕ, List, [], ◌∷◌, ◌++◌, Bool, true, ◌&&◌, ◌||◌, not, nat_lt, length, flat_map, slice_range, IsTrue, MatchOption, Option, Some, None, Ok, ◌≢◌}
 use Rattle.std.specs.Ordering.{is_le}
 use Rattle.std.specs.Str.{is_utf8}
 use Rattle.live_model.specs.Rules.{is_category}
@@ -9,13 +9,14 @@ use Rattle.text_table.specs.Tables.{text_cmp}
 use Rattle.file_grammar.specs.declared.parts.Boxed.TheVariants.{Poi}
 use Rattle.file_grammar.specs.declared.parts.Part.TheVariants.{Group as GroupPart, Pois}
 use Rattle.file_grammar.specs.BoxRules.{Beside, section_facts, with_before}
-use Rattle.file_grammar.specs.Facts.{AllHold, first_failing}
+use Rattle.file_grammar.specs.Facts.{AllHold, earlier, first_failing}
 use Rattle.file_grammar.specs.Messages.{Fields, ends, has_bytes, has_message}
 use Rattle.file_grammar.specs.PoiRules.{Group, group_facts, group_records, groups_facts, groups_in, poi_boxing, poi_records_in}
 use Rattle.file_grammar.specs.Readings.{message_at, message_from}
 use Rattle.file_grammar.specs.Sections.{section_in}
 use Rattle.boxed_exact.specs.Breaks.{form_then}
 use Rattle.boxed_check.specs.Keeping.{IsKept}
+use Rattle.poi_section.specs.declared.group_rules.GroupAsked.{GroupAsked}
 use Rattle.poi_section.specs.declared.kept.GroupKept.{GroupKept}
 use Rattle.poi_section.specs.declared.kept.PoisKept.{PoisKept}
 
@@ -78,3 +79,16 @@ pub record GroupsLeft (beside : Beside) (w : Window) (before : List ℕ) (kept a
   pub added : all ≡ kept ++ more
   pub are : AreGroupsKept beside w.bytes more (groups_in fields)
   pub count_is : count + length (flat_map group_records (groups_in fields)) ≡ total
+
+-- Rule by rule.
+
+-- The group was asked behind another one. It stands so, unless a rule failed.
+pub record IsGroupAsked (beside : Beside) (bytes : List ℕ) (prev : Option Group) (group : Group) (old new : Option FileBreak) (asked : GroupAsked) : Type 0 where
+  pub broken : new ≡ earlier old (first_failing (group_facts beside (prev, group)))
+  pub category : slice_range bytes asked.category.from asked.category.to ≡ group.category.value
+  pub kept : MatchOption asked.kept (new ≢ None) (λ kept. IsGroupKept beside bytes (record { category = asked.category; records = asked.records; kept = kept }) group)
+
+-- what there is of a group was added, with the number of its records
+pub record IsPut (asked : GroupAsked) (records : ℕ) (old new : List GroupKept) (sum : ℕ) : Type 0 where
+  pub put : MatchOption asked.kept (new ≡ old) (λ kept. new ≡ old ++ record { category = asked.category; records = asked.records; kept = kept } ∷ [])
+  pub sum_is : MatchOption asked.kept (sum ≡ records) (λ kept. sum ≡ records + kept.records)

@@ -1,6 +1,6 @@
 //! What sections of points of interest owe their readers and writers beyond one call: laws, with nothing to run.
 
-ghost use Rattle.poi_section.specs.Laws.{AnyOrderLaw, FittingLaw, KeptLaw, PackedLaw, PackedReadLaw};
+ghost use Rattle.poi_section.specs.Laws.{AnyOrderLaw, FittingGroupsLaw, FittingLaw, KeptLaw, PackedGroupsLaw, PackedGroupsReadLaw, PackedLaw, PackedReadLaw};
 
 /// That what is packed of records of one category is a section of these records, in the order of its blocks, and that every
 /// rule holds of it. Read in memory, it gives these records, and no rule fails.
@@ -22,4 +22,16 @@ pub fn grouping_keeps_each_record()
 /// That records of one category are packed to the same bytes in whatever order they are given.
 pub fn any_order_packs_the_same()
     ensures { AnyOrderLaw }
+{}
+
+/// That what is packed of records that fit is one section of these records, in the order of its groups and of their blocks, and
+/// that every rule holds of it. Read in memory, it gives these records, and no rule fails.
+pub fn packed_pois_are_good()
+    ensures spelled { PackedGroupsLaw }
+    ensures read { PackedGroupsReadLaw }
+{}
+
+/// That the records of a section in which every rule holds fit, however it is packed.
+pub fn sound_pois_fit()
+    ensures { FittingGroupsLaw }
 {}

@@ -5,25 +5,28 @@
 //! written. What has to hold, and which records a section is, is said by the definitions of `file_grammar`.
 //!
 //! The layer above may rely on this: `write` appends exactly the packed bytes, or nothing; `PoiClass` checks each rule of a record
-//! exactly; where `see_groups` finds groups good, their form is good, every rule holds, and what it keeps of them is so; and what
-//! is packed of records of one category is good, and read as the same records.
+//! exactly; `check` finds the first break of a whole section exactly, and where it finds none, what it keeps of the groups is so;
+//! and what is packed of records that fit is good, and read as the same records.
 #![tactic(auto)]
 
 mod categories;
+mod checked;
 mod checking;
 mod class;
 mod entries;
+mod group_rules;
 mod kept;
 mod laws;
 mod one_pass;
 mod record_rules;
 mod writing;
 
+pub use checked::check;
 pub use class::PoiClass;
 pub use kept::{GroupKept, PoisKept};
 pub use laws::{
     any_order_packs_the_same, grouping_keeps_each_record, packed_categories_are_good,
-    sound_categories_fit,
+    packed_pois_are_good, sound_categories_fit, sound_pois_fit,
 };
 pub use one_pass::see_groups;
 pub use writing::write;
