@@ -1,6 +1,6 @@
 -- What is staged for an index of users is the index after the lines.
-use Rattle.std.proofs.Common.{◌≡◌, ◌==◌, ℕ, List, [], ◌∷◌, ◌++◌, Bool, true, false, cond, not, eqb, ◌||◌, Option, Some, None, refl, sym, ap, ◌∙◌, arith, map, flat_map, subst}
-use Rattle.std.specs.Prelude.{filter, find, unwrap_or}
+use Rattle.std.proofs.Common.{◌≡◌, ◌==◌, ℕ, List, [], ◌∷◌, ◌++◌, Bool, true, false, cond, not, ◌||◌, Option, Some, None, refl, sym, ap, ◌∙◌, map, flat_map, subst}
+use Rattle.std.specs.Prelude.{filter, unwrap_or}
 use Rattle.std.specs.Option.{option_map}
 use Rattle.std.specs.List.{AllByRecursion, list_any, slice_get}
 use Rattle.std.specs.Ordering.{nat_cmp, is_eq}
@@ -15,13 +15,13 @@ use Rattle.live_model.specs.Closures.{rising_ids, referred, entity_at, line_id, 
 use Rattle.live_model.specs.Users.{is_among, users_of}
 use Rattle.ordered_lists.specs.Ordered.{put_all}
 use Rattle.ordered_lists.proofs.PutAll.{last_alone, put_all_same, filter_alike, rising-put_all}
-use Rattle.layer_table.specs.Layers.{key_of, pair_at, value_at, changed_to, laid}
+use Rattle.layer_table.specs.Layers.{key_of, pair_at, changed_to, laid}
 use Rattle.layer_table.proofs.Laying.{first_passing, over_pair, pair_laid}
 use Rattle.change_laws.specs.Users.{refers_at, targets, users_then}
 use Rattle.change_laws.proofs.Members.{any_map, any_flat, any_alike}
 use Rattle.change_laws.proofs.UsersProof.{users_after, users_stay}
 use Rattle.ref_index.specs.Pairs.{has_any, rising_numbers, pairs_in, pairs_named, places_named, name_of, users_at}
-use Rattle.ref_index.specs.Indexes.{list_at, users_in, Indexes, listed, renewed, lists_for}
+use Rattle.ref_index.specs.Indexes.{list_at, Indexes, listed, renewed, lists_for}
 use Rattle.ref_index.proofs.Pairing.{all_pairs, none_at, own_pairs, same_test, users_append}
 
 -- ---- numbers in order, each once

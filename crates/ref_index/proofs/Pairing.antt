@@ -1,7 +1,7 @@
 -- Pairs that are sorted by their first parts, and what they have at one first part.
-use Rattle.std.proofs.Common.{◌≡◌, ◌==◌, ℕ, zero, suc, ◌≤◌, ◌<◌, ◌-◌, ◌+◌, List, [], ◌∷◌, ◌++◌, Bool, true, false, cond, not, ◌&&◌, ◌||◌, nat_lt, nat_le, refl, sym, ap, ◌∙◌, arith, inl, inr, length, take, drop, get_or, zip, map, flat_map, subst, ℤ, pos}
+use Rattle.std.proofs.Common.{◌≡◌, ◌==◌, ℕ, zero, suc, ◌≤◌, ◌<◌, ◌-◌, List, [], ◌∷◌, ◌++◌, Bool, true, false, cond, not, ◌&&◌, ◌||◌, nat_lt, nat_le, refl, sym, ap, ◌∙◌, arith, inl, inr, length, take, drop, get_or, zip, map, flat_map, subst, ℤ, pos}
 use Rattle.std.specs.Prelude.{filter}
-use Rattle.std.specs.List.{AllByRecursion, AllWithin, list_any}
+use Rattle.std.specs.List.{AllWithin, list_any}
 use Rattle.std.specs.List.Sorted.{IsStableByKey, IsNonDecreasingBy, ties}
 use Rattle.std.specs.Ordering.{nat_cmp, is_lt, is_eq}
 use Rattle.std.proofs.lemmas.Bool.Decides.{nat_tests}
@@ -15,7 +15,7 @@ use Rattle.live_model.specs.Ids.{Id, ordinal}
 use Rattle.live_model.specs.declared.objects.Member.{Member}
 use Rattle.live_model.specs.Closures.{node_id, refers_to}
 use Rattle.live_model.specs.Users.{is_among, refers, users_of}
-use Rattle.ref_index.specs.Pairs.{rising_numbers, pairs_for, pairs_in, users_at, has_any}
+use Rattle.ref_index.specs.Pairs.{rising_numbers, pairs_for, pairs_in, users_at}
 
 map_append : {A B : Type 0} (f : A → B) (xs ys : List A) → map f (xs ++ ys) ≡ map f xs ++ map f ys
 map_append f [] ys = refl

@@ -1,5 +1,5 @@
 -- An index of users: a finite map from the ordinal of an id to the objects that refer to it.
-use Rattle.std.specs.Prelude.{◌≡◌, ◌++◌, ℕ, List, [], ◌∷◌, Bool, not, Option, Some, None, map, filter, unwrap_or}
+use Rattle.std.specs.Prelude.{◌≡◌, ◌++◌, ℕ, List, [], ◌∷◌, not, Option, Some, None, map, filter, unwrap_or}
 use Rattle.std.specs.Ordering.{nat_cmp}
 use Rattle.live_model.specs.declared.objects.Entity.{Entity}
 use Rattle.live_model.specs.Ids.{Id, ordinal}

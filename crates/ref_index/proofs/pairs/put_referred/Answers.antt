@@ -1,4 +1,4 @@
-use Rattle.std.proofs.Common.{◌≡◌, ◌++◌, ◌∙◌, ap, map, append_assoc}
+use Rattle.std.proofs.Common.{◌++◌, ◌∙◌, ap, map, append_assoc}
 use Rattle.live_model.specs.declared.objects.Member.{Member}
 use Rattle.live_model.specs.Ids.{ordinal}
 use Rattle.live_model.specs.Closures.{node_id}

@@ -1,9 +1,7 @@
-use Rattle.std.proofs.Common.{ℕ, ℤ, pos, rules}
+use Rattle.std.proofs.Common.{ℕ, pos, rules}
 use Rattle.std.proofs.lemmas.List.Sorted.{answers_always, IsNonDecreasingBy-from_sort_by_key}
-use Rattle.live_model.specs.declared.ids.Kind.TheVariants.{Node}
 use Rattle.live_model.specs.Ids.{Id}
 use Rattle.live_model.specs.Closures.{node_id}
-use Rattle.layer_table.specs.Layers.{key_of}
 use Rattle.ref_index.proofs.Pairing.{turns_kept}
 use Rattle.ref_index.proofs.pairs.sort.Goals as goal
 

@@ -1,4 +1,4 @@
-use Rattle.std.proofs.Common.{◌≡◌, ◌∙◌, [], ap, sym, subst}
+use Rattle.std.proofs.Common.{◌∙◌, [], ap, sym, subst}
 use Rattle.std.specs.Ordering.{nat_cmp}
 use Rattle.ordered_lists.specs.Ordered.{put_all}
 use Rattle.layer_table.specs.Layers.{key_of, laid}

@@ -1,4 +1,4 @@
-use Rattle.std.proofs.Common.{◌≡◌, ◌∙◌, ap, sym, subst, arith, length, map, zip}
+use Rattle.std.proofs.Common.{◌∙◌, ap, sym, subst, arith, length, map, zip}
 use Rattle.std.specs.List.Sorted.{IsNonDecreasingBy}
 use Rattle.layer_table.specs.Layers.{value_of}
 use Rattle.ref_index.specs.Pairs.{users_at}
