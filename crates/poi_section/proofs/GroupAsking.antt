@@ -2,7 +2,6 @@
 use Rattle.std.proofs.Common.{◌≡◌, ◌≢◌, ℕ, ◌+◌, Bool, true, false, cond, List, [], ◌∷◌, ◌++◌, length, flat_map, Option, Some, None, Result, Ok, Err, refl, sym, ap, subst, ◌∙◌, arith, append_assoc, length-append}
 use Rattle.std.specs.Prelude.{filter_map, nat_lt, slice_range, MatchOption}
 use Rattle.std.proofs.lemmas.List.{append-nil}
-use Rattle.live_model.specs.declared.records.PoiRec.{PoiRec}
 use Rattle.live_model.specs.Rules.{is_category}
 use Rattle.obf_wire.specs.declared.field.Field.{Field}
 use Rattle.obf_wire.specs.declared.file.FileBreak.{FileBreak}
@@ -12,23 +11,23 @@ use Rattle.file_grammar.specs.declared.parts.Boxed.TheVariants.{Poi}
 use Rattle.file_grammar.specs.declared.parts.Content.{Content}
 use Rattle.file_grammar.specs.declared.parts.Content.TheVariants.{Message}
 use Rattle.file_grammar.specs.declared.parts.Part.{Part}
-use Rattle.file_grammar.specs.declared.parts.Part.TheVariants.{Block as BlockPart, Boxes, Group as GroupPart, Pois}
+use Rattle.file_grammar.specs.declared.parts.Part.TheVariants.{Boxes, Group as GroupPart, Pois}
 use Rattle.file_grammar.specs.BoxRules.{Beside, follows, section_facts, with_before}
-use Rattle.file_grammar.specs.Facts.{AllHold, Fact, break_of, earlier, fact, failing, first_failing}
+use Rattle.file_grammar.specs.Facts.{Fact, earlier, fact, failing, first_failing}
 use Rattle.file_grammar.specs.Messages.{Fields, ends, has_number, has_bytes, has_numbers, has_message}
-use Rattle.file_grammar.specs.PoiRules.{Group, categories_rise, group_facts, group_records, group_with, groups_facts, groups_in, poi_boxing, poi_records_in}
+use Rattle.file_grammar.specs.PoiRules.{Group, categories_rise, group_facts, group_records, group_with, groups_facts, groups_in, poi_boxing}
 use Rattle.file_grammar.specs.Readings.{break_in, message_at, payload_of}
-use Rattle.file_grammar.specs.Sections.{Placed, block_with, blocks_in, entries_from, messages_in, placed, section_in, texts_in}
+use Rattle.file_grammar.specs.Sections.{Placed, blocks_in, entries_from, messages_in, placed, section_in, texts_in}
 use Rattle.file_grammar.specs.Tables.{content_of}
 use Rattle.file_grammar.specs.Walks.{HoldsMessage, IsNext, Standing, left_in}
-use Rattle.file_grammar.proofs.Earlier.{and_last, and_more, and_one, earlier_joined, earlier_none, one_first_break_law}
+use Rattle.file_grammar.proofs.Earlier.{and_more, and_one, earlier_none, one_first_break_law}
 use Rattle.file_grammar.proofs.FileShape.{BeginsBytes, begins_bytes}
 use Rattle.file_grammar.proofs.Shaped.{AreMessages, BeginsMessage, IsShaped, are_messages, begins_message, shaped}
 use Rattle.boxed_exact.specs.Breaks.{rules_break as boxed_break, section_break, form_then}
 use Rattle.boxed_exact.specs.declared.fields.Payload.{Payload}
 use Rattle.boxed_exact.specs.Fields.{HoldsInner}
 use Rattle.boxed_exact.specs.Pairs.{AreBlocks}
-use Rattle.boxed_exact.proofs.BlockWalk.{IsSectionOf, held_block, section_of}
+use Rattle.boxed_exact.proofs.BlockWalk.{held_block}
 use Rattle.boxed_exact.proofs.RecordWalk.{IsBlockOf, block_of}
 use Rattle.boxed_check.specs.Keeping.{IsKept, entries_of}
 use Rattle.boxed_check.specs.declared.kept.Kept.{Kept}

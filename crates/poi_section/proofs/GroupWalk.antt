@@ -1,26 +1,21 @@
 -- Good groups, one after another.
-use Rattle.std.proofs.Common.{◌≡◌, ℕ, suc, ◌+◌, ◌≤◌, Bool, true, false, List, [], ◌∷◌, ◌++◌, length, flat_map, map, Option, Some, None, Result, Ok, refl, sym, ap, subst, ◌∙◌, arith, append_assoc, length-append}
-use Rattle.std.specs.Prelude.{◌&&◌, ◌||◌, not, nat_lt, slice_range}
-use Rattle.std.specs.Str.{is_utf8}
-use Rattle.std.specs.Ordering.{is_le}
+use Rattle.std.proofs.Common.{◌≡◌, ℕ, suc, ◌+◌, ◌≤◌, true, List, [], ◌∷◌, ◌++◌, length, flat_map, map, Option, Some, None, Result, Ok, refl, sym, ap, subst, ◌∙◌, arith, append_assoc, length-append}
+use Rattle.std.specs.Prelude.{nat_lt, slice_range}
 use Rattle.std.proofs.lemmas.Bool.Decides.{nat_tests}
 use Rattle.std.proofs.lemmas.List.{append-nil, length-map}
-use Rattle.live_model.specs.declared.records.PoiRec.{PoiRec}
 use Rattle.live_model.specs.Rules.{is_category}
 use Rattle.obf_wire.specs.declared.field.Field.{Field}
 use Rattle.obf_wire.specs.declared.file.FileBreak.{FileBreak}
 use Rattle.obf_wire.specs.Fields.{Window, IsWindow, part_of}
 use Rattle.obf_wire.specs.KnownKeys.{StandsFirst}
-use Rattle.text_table.specs.Tables.{text_cmp}
 use Rattle.file_grammar.specs.declared.parts.Boxed.{Boxed}
 use Rattle.file_grammar.specs.declared.parts.Boxed.TheVariants.{Poi}
 use Rattle.file_grammar.specs.declared.parts.Part.TheVariants.{Boxes, Group as GroupPart, Pois}
-use Rattle.file_grammar.specs.BoxRules.{Beside, follows, section_facts, with_before}
-use Rattle.file_grammar.specs.Facts.{AllHold, Fact}
+use Rattle.file_grammar.specs.BoxRules.{Beside, follows, with_before}
 use Rattle.file_grammar.specs.Messages.{Fields, ends, has_bytes, has_message}
-use Rattle.file_grammar.specs.PoiRules.{Group, categories_rise, group_facts, group_records, groups_facts, groups_in, poi_boxing, poi_read, poi_records_in}
+use Rattle.file_grammar.specs.PoiRules.{Group, categories_rise, group_facts, group_records, groups_facts, groups_in, poi_boxing, poi_read}
 use Rattle.file_grammar.specs.Readings.{message_at, message_from}
-use Rattle.file_grammar.specs.Sections.{Block, Entry, placed, section_in}
+use Rattle.file_grammar.specs.Sections.{Block, placed, section_in}
 use Rattle.file_grammar.proofs.Built.{ends_there, bytes_before, message_before}
 use Rattle.file_grammar.proofs.Earlier.{one_first_break_law}
 use Rattle.boxed_exact.specs.Breaks.{form_then}
@@ -31,7 +26,7 @@ use Rattle.boxed_check.proofs.BlockWalk.{all_append}
 use Rattle.boxed_check.proofs.NodeWalk.{window_behind}
 use Rattle.poi_section.specs.declared.kept.GroupKept.{GroupKept}
 use Rattle.poi_section.specs.declared.kept.PoisKept.{PoisKept}
-use Rattle.poi_section.specs.Groups.{AreGroupsKept, ArePoisKept, GroupsLeft, IsGoodGroup, IsGroupKept, category_before, may_rise, pois_break, rules_break}
+use Rattle.poi_section.specs.Groups.{AreGroupsKept, ArePoisKept, GroupsLeft, IsGoodGroup, category_before, may_rise, pois_break, rules_break}
 
 abbrev at_place : Window → ℕ → Window
 at_place w next = record w { place = next }

@@ -1,6 +1,6 @@
 -- What is packed of points of interest is one section of them, and the records of a sound section fit.
 use Rattle.std.proofs.Common.{◌≡◌, ◌≢◌, ℕ, ◌+◌, ◌<◌, ◌≤◌, ◌^◌, Bool, true, false, cond, List, [], ◌∷◌, ◌++◌, length, map, Option, Some, None, refl, sym, ap, subst, ◌∙◌, append_assoc, arith}
-use Rattle.std.specs.Prelude.{◌&&◌, ◌||◌, not, flat_map, nat_lt, slice_range, IsTrue}
+use Rattle.std.specs.Prelude.{◌&&◌, not, flat_map, nat_lt, slice_range, IsTrue}
 use Rattle.std.specs.List.{AllByRecursion}
 use Rattle.std.specs.Ordering.{is_eq, is_le}
 use Rattle.std.specs.Str.{is_utf8}
@@ -20,8 +20,7 @@ use Rattle.text_table.specs.Tables.{text_cmp}
 use Rattle.text_table.proofs.Rising.{equal_is, itself}
 use Rattle.file_grammar.specs.declared.parts.Part.{Part}
 use Rattle.file_grammar.specs.declared.parts.Content.TheVariants.{Bytes}
-use Rattle.file_grammar.specs.declared.parts.Part.TheVariants.{Boxes, Group as GroupPart, Pois}
-use Rattle.file_grammar.specs.declared.parts.Boxed.TheVariants.{Poi}
+use Rattle.file_grammar.specs.declared.parts.Part.TheVariants.{Group as GroupPart, Pois}
 use Rattle.file_grammar.specs.BoxRules.{Beside, block_facts, section_facts, text_fact, with_before}
 use Rattle.file_grammar.specs.Facts.{AllHold, Fact}
 use Rattle.file_grammar.specs.Messages.{Fields, HaveForm, IsMessageFor, MayCome, beyond, ends, has_bytes, has_message, inside, spelling}

@@ -1,5 +1,5 @@
 -- Groups of points of interest as they are checked, and what a check keeps of them.
-use Rattle.std.specs.Prelude.{◌≡◌, ◌+◌, ◌≤◌, ℕ, List, [], ◌∷◌, ◌++◌, Bool, true, ◌&&◌, ◌||◌, not, nat_lt, length, flat_map, slice_range, IsTrue, MatchOption, Option, Some, None, Ok, ◌≢◌}
+use Rattle.std.specs.Prelude.{◌≡◌, ◌+◌, ℕ, List, [], ◌∷◌, ◌++◌, Bool, true, ◌&&◌, ◌||◌, not, nat_lt, length, flat_map, slice_range, MatchOption, Option, Some, None, Ok, ◌≢◌}
 use Rattle.std.specs.Ordering.{is_le}
 use Rattle.std.specs.Str.{is_utf8}
 use Rattle.live_model.specs.Rules.{is_category}
@@ -8,7 +8,7 @@ use Rattle.obf_wire.specs.Fields.{Window, IsWindow, part_of}
 use Rattle.text_table.specs.Tables.{text_cmp}
 use Rattle.file_grammar.specs.declared.parts.Boxed.TheVariants.{Poi}
 use Rattle.file_grammar.specs.declared.parts.Part.TheVariants.{Group as GroupPart, Pois}
-use Rattle.file_grammar.specs.BoxRules.{Beside, section_facts, with_before}
+use Rattle.file_grammar.specs.BoxRules.{Beside, with_before}
 use Rattle.file_grammar.specs.Facts.{AllHold, earlier, first_failing}
 use Rattle.file_grammar.specs.Messages.{Fields, ends, has_bytes, has_message}
 use Rattle.file_grammar.specs.PoiRules.{Group, group_facts, group_records, groups_facts, groups_in, poi_boxing, poi_records_in}

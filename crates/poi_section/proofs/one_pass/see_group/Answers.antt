@@ -1,7 +1,7 @@
-use Rattle.std.proofs.Common.{◌≡◌, ℕ, List, [], length, true, false, ap, sym, subst, ◌∙◌, arith, rules}
-use Rattle.std.specs.Prelude.{IfSome, nat_lt, slice_range}
+use Rattle.std.proofs.Common.{◌≡◌, ℕ, List, length, true, sym, subst, arith, rules}
+use Rattle.std.specs.Prelude.{nat_lt, slice_range}
 use Rattle.live_model.specs.Rules.{is_category}
-use Rattle.obf_wire.specs.Fields.{Window, IsWindow, part_of}
+use Rattle.obf_wire.specs.Fields.{Window, part_of}
 use Rattle.obf_wire.specs.KnownKeys.{StandsFirst}
 use Rattle.obf_wire.specs.Windows.{range_of}
 use Rattle.file_grammar.specs.declared.parts.Boxed.TheVariants.{Poi}
@@ -9,7 +9,6 @@ use Rattle.file_grammar.specs.PoiRules.{poi_boxing}
 use Rattle.boxed_exact.specs.Sides.{beside}
 use Rattle.boxed_exact.specs.declared.fields.Payload.{Payload}
 use Rattle.boxed_check.specs.Keeping.{IsKept}
-use Rattle.boxed_check.specs.declared.kept.Kept.{Kept}
 use Rattle.poi_section.specs.Groups.{IsGoodGroup}
 use Rattle.poi_section.proofs.GroupWalk.{good_group}
 use Rattle.poi_section.proofs.one_pass.see_group.Goals as goal

@@ -1,4 +1,4 @@
-use Rattle.std.proofs.Common.{◌≡◌, ℕ, ◌+◌, List, [], ◌∷◌, ◌++◌, true, ap, sym, subst, ◌∙◌, arith, rules}
+use Rattle.std.proofs.Common.{◌≡◌, ℕ, ◌+◌, List, [], ◌∷◌, ◌++◌, true, subst, arith, rules}
 use Rattle.std.specs.Prelude.{slice_range}
 use Rattle.obf_wire.specs.Fields.{Window, part_of}
 use Rattle.obf_wire.specs.Windows.{range_of}
