@@ -5,8 +5,6 @@
 mod layers;
 #[cfg(test)]
 mod stores;
-#[cfg(test)]
-mod users;
 
 /// Nothing; the crate is its tests.
 pub fn nothing() {}
