@@ -31,7 +31,7 @@ pub fn base_records<L: Ledger>(
     ensures most { steps.new ≤ steps.old + 4 * length store.now.entities }
 {
     let look = Look::now(store);
-    let _rules = rules.len();
+    let _rules = rules.as_slice();
     let mut records = Vec::new(alloc);
     for entity in store.entities() {
         are_texts(entity);

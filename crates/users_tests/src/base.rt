@@ -1,5 +1,7 @@
 //! A store with the index of its users.
 
+ghost use Rattle.std.specs.Prelude.{◌≤◌, OnOk};
+
 use entity_store::{Look, Staged, Store};
 use live_model::{Kind, Line, ObjId};
 use opl_reader::{OplError, read_all};
@@ -22,7 +24,10 @@ impl Base {
     }
 
     /// Stages the lines of a text.
-    pub fn stage(&mut self, alloc: Global, text: &str) -> Result<(Staged, StagedRefs), OplError> {
+    pub fn stage(&mut self, alloc: Global, text: &str) -> Result<(Staged, StagedRefs), OplError>
+        ensures store { OnOk result (1 ≤ self.new.store.spare) }
+        ensures index { OnOk result (1 ≤ self.new.index.spare) }
+    {
         let lines = read_all(alloc, text.as_bytes())?;
         self.stage_lines(alloc, &lines)
     }
@@ -32,7 +37,10 @@ impl Base {
         &mut self,
         alloc: Global,
         lines: &[Line],
-    ) -> Result<(Staged, StagedRefs), OplError> {
+    ) -> Result<(Staged, StagedRefs), OplError>
+        ensures store { OnOk result (1 ≤ self.new.store.spare) }
+        ensures index { OnOk result (1 ≤ self.new.index.spare) }
+    {
         let staged = self.store.stage(alloc, lines)?;
         let before = Look::now(&self.store);
         let after = Look::then(&self.store, &staged);
