@@ -4,7 +4,8 @@
 //! restriction, each class as its own crate derives it. The one idea: the records of a store are those of its objects
 //! in turn, and stand in order as they come, so nothing is sorted. The layer above may rely on this: the records are
 //! the map that `live_model`'s `specs/Maps.antt` says, those of a good store stand in the order of records and fit the
-//! rules, so that they can be written as they are, and each object counts four steps, one for each derivation.
+//! rules, so that they can be written as they are, and each object with tags counts four steps, one for each
+//! derivation; an object without tags has no records.
 #![tactic(auto)]
 
 mod base;

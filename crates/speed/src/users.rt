@@ -77,7 +77,9 @@ fn sum_of(index: &RefIndex, number: i64) -> u64 {
     let mut sum = 0u64;
     if let Some(id) = ObjId::new(Kind::Node, number) {
         for user in index.users(&id) {
-            sum = sum.wrapping_add(user.number().unsigned_abs()).wrapping_add(1);
+            sum = sum
+                .wrapping_add(user.number().unsigned_abs())
+                .wrapping_add(1);
         }
     }
     sum
