@@ -1,3 +1,4 @@
 mod Joining
+mod Differing
 mod Untagged
 mod Wholes

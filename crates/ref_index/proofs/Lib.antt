@@ -1,2 +1,3 @@
 pub mod Pairing
 pub mod Following
+pub mod Touching

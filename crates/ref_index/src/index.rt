@@ -1,16 +1,18 @@
 //! The index of users, and what is staged for it.
 
-ghost use Rattle.std.specs.Prelude.{◌≡◌, ◌≤◌, ◌+◌, ◌++◌, not, filter, IfOk, OnOk};
+ghost use Rattle.std.specs.Prelude.{◌≡◌, ◌≤◌, ◌+◌, ◌++◌, List, not, filter, IfOk, OnOk};
 ghost use Rattle.std.specs.List.{AllByRecursion};
 ghost use Rattle.std.specs.Ordering.{nat_cmp};
 ghost use Rattle.layer_table.specs.Layers.{laid};
+ghost use Rattle.live_model.specs.declared.objects.Entity.{Entity};
 ghost use Rattle.live_model.specs.Ids.{ordinal};
 ghost use Rattle.live_model.specs.Objects.{IsGoodLine};
 ghost use Rattle.live_model.specs.Stores.{IsStore, apply};
+ghost use Rattle.live_model.specs.Users.{touched};
 ghost use Rattle.ref_index.specs.Pairs.{has_any, users_at};
 ghost use Rattle.ref_index.specs.Indexes.{Indexes, list_at, listed, lists_for, renewed, users_in};
 
-use crate::named::{names_of, pairs_of_lines, targets_of_lines};
+use crate::named::{id_of, names_of, pairs_of_lines, targets_of_lines};
 use crate::pairs::{Pairs, pairs_of};
 use crate::sorting::rising_ids;
 use entity_store::{Look, Store};
@@ -74,6 +76,22 @@ impl RefIndex {
         ensures { result.now ≡ users_in self.now.map id.now }
     {
         self.list(id.ordinal())
+    }
+
+    /// The objects that lines touch, in the order of ids, each once: those that they name and those that refer to one
+    /// of these by this index. It costs what it finds, whatever the map's size.
+    pub fn touched(&self, alloc: Global, lines: &[Line]) -> Mem<Vec<ObjId>>
+        ensures { (store : List Entity) → Indexes self.now.map store → IfOk result (λ ids. ids.items ≡ touched store lines.now) }
+    {
+        let mut ids = Vec::new(alloc);
+        let mut rest = lines;
+        while let Some((line, later)) = rest.split_first() {
+            let id = id_of(line);
+            ids.push(id)?;
+            put_all(self.users(&id), &mut ids)?;
+            rest = later;
+        }
+        rising_ids(ids)
     }
 
     /// How many layers there are.

@@ -64,7 +64,7 @@ fn put_both(before: &Look<'_>, after: &Look<'_>, id: &ObjId, places: &mut Vec<u6
 }
 
 /// The object that a line is about.
-fn id_of(line: &Line) -> ObjId
+pub fn id_of(line: &Line) -> ObjId
     ensures { result ≡ line_id line.now }
 {
     match line {

@@ -1,0 +1,71 @@
+//! What lines change in the map of a store.
+
+ghost use Rattle.std.specs.Prelude.{◌≡◌, ◌+◌, ◌*◌, ◌≤◌, length, IfOk, OnOk};
+ghost use Rattle.std.specs.List.{AllByRecursion};
+ghost use Rattle.std.specs.Ordering.{nat_cmp};
+ghost use Rattle.layer_table.specs.Layers.{laid};
+ghost use Rattle.entity_store.specs.Changes.{after_changes};
+ghost use Rattle.ref_index.specs.Indexes.{Indexes};
+ghost use Rattle.live_model.specs.Maps as Maps;
+ghost use Rattle.live_model.specs.Objects.{IsGoodLine};
+ghost use Rattle.live_model.specs.Stores.{IsStore, apply};
+ghost use Rattle.live_model.specs.Users.{touched};
+
+use crate::comparing::{Changed, changed_among};
+use entity_store::{Look, Staged, Store};
+use live_model::{Line, Mem, ObjId, Rec, Steps};
+use ref_index::{RefIndex, StagedRefs};
+use std::alloc::Global;
+use std::sync::ledger::Ledger;
+use tag_rules::Rules;
+
+/// What lines change: the objects whose records are others after them, in the order of ids, the records of these then, in
+/// order, and what is staged of the lines for the store and for its index.
+#[derive(Drop)]
+pub struct Change {
+    pub marks: Vec<ObjId>,
+    pub records: Vec<Rec>,
+    pub staged: Staged,
+    pub refs: StagedRefs,
+}
+
+/// The overlay of lines over the map of a store, and what is staged of them, where the index is that of the store and both
+/// store and lines are good. Store and index stay, also where memory is refused, and have room for what is staged. It counts
+/// eight steps for each object that the lines touch, and at most that where memory is refused.
+pub fn overlay<L: Ledger>(
+    alloc: Global,
+    rules: &Rules,
+    store: &mut Store,
+    index: &mut RefIndex,
+    lines: &[Line],
+    steps: &mut Steps<L>,
+) -> Mem<Change>
+    ensures entities { store.new.entities ≡ store.old.entities }
+    ensures users { index.new.map ≡ index.old.map }
+    ensures kept { (store.old.spare ≤ store.new.spare) × (index.old.spare ≤ index.new.spare) }
+    ensures fewer { (store.new.depth ≤ store.old.depth) × (index.new.depth ≤ index.old.depth) }
+    ensures room { OnOk result ((1 ≤ store.new.spare) × (1 ≤ index.new.spare)) }
+    ensures depth { OnOk result ((store.new.depth ≤ 32) × (index.new.depth ≤ 32)) }
+    ensures staged { IfOk result (λ change. after_changes store.old.entities change.staged ≡ apply store.old.entities lines.now) }
+    ensures refs { IsStore store.old.entities → AllByRecursion IsGoodLine lines.now → Indexes index.old.map store.old.entities → IfOk result (λ change. Indexes (laid nat_cmp index.old.map change.refs) (apply store.old.entities lines.now)) }
+    ensures marks { IsStore store.old.entities → AllByRecursion IsGoodLine lines.now → Indexes index.old.map store.old.entities → IfOk result (λ change. change.marks.items ≡ (Maps.overlay rules.now store.old.entities lines.now).marks) }
+    ensures records { IsStore store.old.entities → AllByRecursion IsGoodLine lines.now → Indexes index.old.map store.old.entities → IfOk result (λ change. change.records.items ≡ (Maps.overlay rules.now store.old.entities lines.now).records) }
+    ensures counted { Indexes index.old.map store.old.entities → OnOk result (steps.new ≡ steps.old + 8 * length (touched store.old.entities lines.now)) }
+    ensures most { Indexes index.old.map store.old.entities → steps.new ≤ steps.old + 8 * length (touched store.old.entities lines.now) }
+{
+    let staged = store.stage(alloc, lines)?;
+    let before = Look::now(store);
+    let after = Look::then(store, &staged);
+    let ids = index.touched(alloc, lines)?;
+    let found = changed_among(alloc, rules, &before, &after, &ids, steps)?;
+    let refs = index.stage(alloc, &before, &after, lines)?;
+    drop(before);
+    drop(after);
+    let Changed { marks, records } = found;
+    Ok(Change {
+        marks,
+        records,
+        staged,
+        refs,
+    })
+}
