@@ -2,9 +2,9 @@
 //!
 //! The first word is the work: `wire` writes and reads numbers or points in their wire form, `rules` asks a table which rules
 //! match an object, `boxes` packs boxes and asks their tree for those in rectangles, `store` builds a store of nodes and commits
-//! changes of it, `users` does the same of a store of nodes and ways and the index of their users, `users-alone` builds that store without its index, and `over` goes over a
-//! store. The words after it say how, and how much. Without words a little of each is done. Printed are two numbers, so that no work can be left out. Nothing is claimed of
-//! it but that it is safe and ends.
+//! changes of it, `users` does the same of a store of nodes and ways and the index of their users, and `over` goes over a
+//! store. The words after it say how, and how much. Without words a little of each is done. Printed are two numbers, so that
+//! no work can be left out. Nothing is claimed of it but that it is safe and ends.
 #![tactic(auto)]
 
 mod boxes;
@@ -163,7 +163,6 @@ fn main(rt: HostRuntime) -> io::Result<ExitCode> {
         )?,
         "store" => changed(&rt, number(&one), number(&two), number(&three))?,
         "users" => followed(&rt, number(&one), number(&two), number(&three))?,
-        "users-alone" => print(&rt, users::alone(alloc, number(&one)))?,
         "over" => gone_over(&rt, number(&one), number(&two))?,
         _ => return Ok(ExitCode::from(2)),
     };

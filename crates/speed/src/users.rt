@@ -1,7 +1,7 @@
 //! Stores of nodes and ways that are made up, with the index of their users, and changes of both.
 
 use crate::Work;
-use crate::changes::{self, node};
+use crate::changes::node;
 use crate::state::next;
 use entity_store::{Look, Store};
 use live_model::{Entity, Kind, Line, List, Mem, ObjId};
@@ -20,15 +20,6 @@ pub fn work(alloc: Global, objects: u32, changes: u32, lines: u32) -> Mem<Work> 
     Ok(Work {
         count: u64::from(objects),
         sum: sum(&index, objects),
-    })
-}
-
-/// Builds a store of so many objects. What is summed are the places of some nodes.
-pub fn alone(alloc: Global, objects: u32) -> Mem<Work> {
-    let store = built(alloc, objects)?;
-    Ok(Work {
-        count: u64::from(objects),
-        sum: changes::sum(&store, objects),
     })
 }
 
