@@ -1,5 +1,5 @@
 -- Addresses of a block that are asked, one after another.
-use Rattle.std.proofs.Common.{◌≡◌, ℕ, ◌+◌, Bool, List, [], ◌∷◌, ◌++◌, filter_map, flat_map, length, Option, Some, None, Ok, refl, sym, ap, subst, ◌∙◌, arith, append_assoc, length-append}
+use Rattle.std.proofs.Common.{◌≡◌, ℕ, ◌+◌, Bool, List, [], ◌∷◌, ◌++◌, filter_map, length, Option, Some, None, Ok, refl, sym, ap, subst, ◌∙◌, arith, append_assoc, length-append}
 use Rattle.std.specs.Prelude.{◌&&◌, ◌==◌, not}
 use Rattle.std.specs.List.{list_all}
 use Rattle.std.specs.Option.{option_or}
@@ -17,7 +17,7 @@ use Rattle.file_grammar.specs.declared.parts.Part.{Part}
 use Rattle.file_grammar.specs.declared.parts.Part.TheVariants.{Address as AddressPart, KeyedBlock as BlockPart}
 use Rattle.file_grammar.specs.declared.parts.Version.{Version}
 use Rattle.file_grammar.specs.AddressRules.{Address, address_facts, address_with, addresses_rise, first_of, is_addressed, is_key_of, is_kind_in, is_number_for, lang_facts, last_of}
-use Rattle.file_grammar.specs.BoxRules.{Beside, follows, is_marked, is_on_grid, is_ordinal, with_before}
+use Rattle.file_grammar.specs.BoxRules.{Beside, follows, is_marked, is_on_grid, is_ordinal}
 use Rattle.file_grammar.specs.Facts.{Fact, earlier, fact, failing, first_failing}
 use Rattle.file_grammar.specs.Messages.{Fields, ends, has_number, has_bytes, has_numbers, has_message}
 use Rattle.file_grammar.specs.Readings.{message_at, payload_of}
@@ -26,7 +26,7 @@ use Rattle.file_grammar.specs.Sections.{Placed, messages_in, placed}
 use Rattle.file_grammar.specs.Tables.{content_of}
 use Rattle.file_grammar.specs.Walks.{HoldsMessage, IsNext, Standing, left_in}
 use Rattle.file_grammar.proofs.Earlier.{and_more, and_one, earlier_none}
-use Rattle.file_grammar.proofs.Shaped.{AreMessages, IsShaped, are_messages, shaped}
+use Rattle.file_grammar.proofs.Shaped.{AreMessages, are_messages, shaped}
 use Rattle.addr_section.specs.declared.addresses.AddressSeen.{AddressSeen}
 use Rattle.addr_section.specs.declared.addresses.SortKey.{SortKey}
 use Rattle.addr_section.specs.declared.block_rules.BlockSeen.{BlockSeen}
@@ -34,7 +34,7 @@ use Rattle.addr_section.specs.declared.addresses.TextSeen.{TextSeen}
 use Rattle.addr_section.proofs.SortKeys.{or_key}
 use Rattle.addr_section.specs.Asked.{IsAddressAsked, IsBlockAsked, all_facts}
 use Rattle.addr_section.specs.Kept.{addresses_within}
-use Rattle.addr_section.specs.Seen.{IsRead, IsSortKeyOf, address_of, lang_of, lang_seen, may_follow, rises, seen_facts, sort_key}
+use Rattle.addr_section.specs.Seen.{IsRead, IsSortKeyOf, address_of, lang_of, lang_seen, may_follow, seen_facts, sort_key}
 
 -- what may follow by the same
 pub follows_same : (before : Option SortKey) (a b : SortKey) → a ≡ b → may_follow before a ≡ may_follow before b

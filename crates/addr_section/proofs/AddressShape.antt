@@ -1,8 +1,7 @@
 -- The fields of an address: two numbers, three texts, the steps to its point, and in the second version a language.
-use Rattle.std.proofs.Common.{◌≡◌, ℕ, List, Option, Some, None, Ok, refl, sym, ap, subst, ◌∙◌, ◌⊎◌, inl, inr, length}
+use Rattle.std.proofs.Common.{◌≡◌, ℕ, List, Option, Some, None, refl, sym, ap, ◌∙◌, length}
 use Rattle.std.specs.List.{list_all}
 use Rattle.coord_delta.specs.Steps.{places}
-use Rattle.file_grammar.specs.declared.parts.Part.{Part}
 use Rattle.file_grammar.specs.declared.parts.Part.TheVariants.{Address as AddressPart}
 use Rattle.file_grammar.specs.declared.parts.Version.{Version}
 use Rattle.file_grammar.specs.declared.parts.Version.TheVariants.{One, Two}
@@ -13,7 +12,7 @@ use Rattle.file_grammar.specs.Sections.{Placed, placed}
 use Rattle.file_grammar.proofs.FileShape.{BeginsBytes, begins_bytes}
 use Rattle.file_grammar.proofs.Shaped.{BeginsNumber, BeginsNumbers, IsShaped, begins_number, begins_numbers}
 use Rattle.addr_section.specs.declared.addresses.AddressSeen.{AddressSeen}
-use Rattle.addr_section.specs.Seen.{IsRead, address_of, lang_of}
+use Rattle.addr_section.specs.Seen.{IsRead, lang_of}
 
 -- nothing, or a language
 abbrev pub MayBeLang : Fields → Type 0

@@ -6,7 +6,7 @@ use Rattle.obf_wire.specs.declared.file.FileBreak.{FileBreak}
 use Rattle.obf_wire.specs.declared.file.FileKind.TheVariants.{BadPlace}
 use Rattle.file_grammar.specs.declared.parts.Version.{Version}
 use Rattle.file_grammar.specs.AddressRules.{Address, KeyEntry, KeyedBlock, KeyedList, address_facts, addresses_in, entry_facts, entry_pairs, first_at, key_facts, keyed_block_fact, keyed_facts, last_of}
-use Rattle.file_grammar.specs.BoxRules.{Beside, with_before}
+use Rattle.file_grammar.specs.BoxRules.{Beside}
 use Rattle.file_grammar.specs.Facts.{Fact, earlier, fact, failing, first_failing}
 use Rattle.file_grammar.proofs.Earlier.{and_before, and_last, and_more, and_one, earlier_joined, earlier_none, earlier_swap, first_joined}
 use Rattle.boxed_exact.specs.declared.fields.Payload.{Payload}

@@ -1,5 +1,5 @@
 -- The two lists of a section.
-use Rattle.std.proofs.Common.{◌≡◌, ℕ, ◌+◌, false, true, List, ◌++◌, length, map, Option, Some, None, Result, Ok, Err, refl, sym, ap, subst, ◌∙◌, arith, length-append}
+use Rattle.std.proofs.Common.{◌≡◌, ℕ, ◌+◌, false, true, length, Option, Some, None, Result, Ok, Err, refl, sym, ap, subst, ◌∙◌, arith, length-append}
 use Rattle.std.proofs.lemmas.List.{length-map}
 use Rattle.obf_wire.specs.declared.file.FileBreak.{FileBreak}
 use Rattle.obf_wire.specs.Fields.{Window, part_of}
@@ -8,7 +8,7 @@ use Rattle.file_grammar.specs.declared.parts.Content.TheVariants.{Message}
 use Rattle.file_grammar.specs.declared.parts.Part.{Part}
 use Rattle.file_grammar.specs.declared.parts.Part.TheVariants.{Addresses as AddressesPart, Keyed as ListPart}
 use Rattle.file_grammar.specs.declared.parts.Version.{Version}
-use Rattle.file_grammar.specs.AddressRules.{address_record_of, address_records_in, addresses_facts, addresses_in, addresses_of, keyed_facts, keyed_list, list_records}
+use Rattle.file_grammar.specs.AddressRules.{address_record_of, addresses_facts, addresses_in, addresses_of, keyed_facts, list_records}
 use Rattle.file_grammar.specs.BoxRules.{Beside}
 use Rattle.file_grammar.specs.Facts.{earlier, first_failing}
 use Rattle.file_grammar.specs.Messages.{Fields, has_message}
@@ -20,7 +20,6 @@ use Rattle.file_grammar.proofs.Shaped.{BeginsMessage, IsShaped, begins_message}
 use Rattle.boxed_exact.specs.Breaks.{form_then}
 use Rattle.boxed_exact.specs.Fields.{HoldsInner}
 use Rattle.addr_section.specs.declared.kept.AddressesKept.{AddressesKept}
-use Rattle.addr_section.specs.declared.kept.ListKept.{ListKept}
 use Rattle.addr_section.specs.Breaks.{addresses_break, rules_break}
 use Rattle.addr_section.specs.Kept.{AreAddressesKept, AreListsKept}
 

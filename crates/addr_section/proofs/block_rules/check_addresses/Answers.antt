@@ -1,5 +1,4 @@
-use Rattle.std.proofs.Common.{◌≡◌, ◌+◌, ℕ, List, Option, Some, Ok, ap, sym, subst, ◌∙◌, arith}
-use Rattle.std.specs.Option.{option_or}
+use Rattle.std.proofs.Common.{◌≡◌, ◌+◌, ℕ, List, Option, Ok, ap, sym, subst, ◌∙◌, arith}
 use Rattle.obf_wire.specs.Fields.{Window, IsWindow, part_of}
 use Rattle.obf_wire.specs.Windows.{range_of}
 use Rattle.file_grammar.specs.declared.parts.Part.TheVariants.{Address as AddressPart}

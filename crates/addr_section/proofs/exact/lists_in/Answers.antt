@@ -8,7 +8,6 @@ use Rattle.file_grammar.specs.Messages.{Fields, has_message}
 use Rattle.file_grammar.specs.Readings.{message_at}
 use Rattle.file_grammar.specs.Walks.{Standing, left_in}
 use Rattle.file_grammar.proofs.Shaped.{shaped}
-use Rattle.addr_section.specs.declared.kept.ListKept.{ListKept}
 use Rattle.addr_section.specs.Kept.{AreListsKept, IsListKept}
 use Rattle.addr_section.proofs.Whole.{IsWhole, held_list, whole}
 use Rattle.addr_section.proofs.exact.lists_in.Goals as goal

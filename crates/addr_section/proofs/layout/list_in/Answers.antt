@@ -1,8 +1,7 @@
-use Rattle.std.proofs.Common.{◌≡◌, ◌≤◌, ℕ, List, length, ap, sym, subst, ◌∙◌, arith}
+use Rattle.std.proofs.Common.{◌≤◌, ℕ, List, length, ap, sym, subst, ◌∙◌, arith}
 use Rattle.obf_wire.specs.Fields.{IsWindow, part_of}
 use Rattle.obf_wire.specs.Windows.{range_of}
 use Rattle.file_grammar.specs.Walks.{Standing}
-use Rattle.addr_section.specs.declared.kept.ListKept.{ListKept}
 use Rattle.addr_section.proofs.ListShape.{list_all_kept, list_begin, list_on}
 use Rattle.addr_section.proofs.layout.list_in.Goals as goal
 

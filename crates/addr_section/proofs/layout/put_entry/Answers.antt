@@ -1,4 +1,4 @@
-use Rattle.std.proofs.Common.{◌≡◌, ℕ, List, Ok, ap, sym, subst, ◌∙◌}
+use Rattle.std.proofs.Common.{◌≡◌, ℕ, List, Ok, ap, sym, subst}
 use Rattle.obf_wire.specs.Fields.{Window}
 use Rattle.file_grammar.specs.declared.parts.Part.TheVariants.{KeyEntry as EntryPart}
 use Rattle.file_grammar.specs.Readings.{message_at}

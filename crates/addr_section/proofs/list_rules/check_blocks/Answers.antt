@@ -1,6 +1,6 @@
-use Rattle.std.proofs.Common.{◌≡◌, ◌+◌, ℕ, List, Option, drop, ap, sym, subst, ◌∙◌, rules}
+use Rattle.std.proofs.Common.{◌≡◌, ◌+◌, ℕ, List, Option, sym, subst, rules}
 use Rattle.std.specs.Option.{option_or}
-use Rattle.file_grammar.specs.AddressRules.{Address, KeyEntry, KeyedBlock, first_at}
+use Rattle.file_grammar.specs.AddressRules.{Address, KeyEntry, KeyedBlock}
 use Rattle.boxed_exact.specs.declared.fields.Payload.{Payload}
 use Rattle.boxed_exact.specs.Sides.{beside}
 use Rattle.addr_section.specs.declared.addresses.SortKey.{SortKey}

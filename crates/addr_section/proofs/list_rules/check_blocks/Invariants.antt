@@ -1,4 +1,4 @@
-use Rattle.std.proofs.Common.{◌≡◌, List, length}
+use Rattle.std.proofs.Common.{List, length}
 use Rattle.file_grammar.specs.AddressRules.{KeyEntry, KeyedBlock}
 use Rattle.boxed_exact.specs.Sides.{beside}
 use Rattle.addr_section.specs.Kept.{AreBlocksKept, AreEntriesKept}

@@ -1,4 +1,4 @@
-use Rattle.std.proofs.Common.{◌≡◌, List, length}
+use Rattle.std.proofs.Common.{List, length}
 use Rattle.file_grammar.specs.AddressRules.{KeyEntry}
 use Rattle.addr_section.specs.Kept.{AreEntriesKept}
 use Rattle.addr_section.proofs.ListAsking.{EntriesLeft}

@@ -1,4 +1,4 @@
-use Rattle.std.proofs.Common.{Bool, List, [], ◌∷◌, ℕ, ap, sym, ◌∙◌}
+use Rattle.std.proofs.Common.{Bool, [], ◌∷◌, ℕ, ap, ◌∙◌}
 use Rattle.std.specs.Str.{is_utf8}
 use Rattle.obf_wire.specs.declared.file.FileKind.TheVariants.{BadText}
 use Rattle.file_grammar.specs.Facts.{earlier, fact, failing}
