@@ -1,2 +1,7 @@
-pub mod Packed
+pub mod Asked
+pub mod Breaks
+pub mod Kept
 pub mod Keyed
+pub mod Layout
+pub mod Packed
+pub mod Seen
