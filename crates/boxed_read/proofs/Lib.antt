@@ -1,0 +1,3 @@
+pub mod EntryWalk
+pub mod BlockRead
+pub mod SectionRead
