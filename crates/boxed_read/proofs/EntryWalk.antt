@@ -38,24 +38,24 @@ small_ordinal n good =
 
 module _ {A : Type 0} (class : Boxed) (boxing : Boxing) (reads : List ℕ → Reading A) (id_of : A → Id) (law : IsReading boxing reads id_of) (group : List ℕ) where
   -- a record of this step came, and the others are left
-  pub record Stepped (texts : Window) (bytes : List ℕ) (before step : ℕ) (s behind : Standing) (f : Field) : Type 0 where
+  pub record Stepped (texts w : Window) (before step : ℕ) (s behind : Standing) (f : Field) : Type 0 where
     pub fits : before + step < 2 ^ 64
-    pub sound : IsSoundRecord class boxing texts (part_of bytes f.from f.to) (before + step)
+    pub sound : IsSoundRecord class boxing texts w (before + step)
     pub later : AreSoundLeft class boxing texts (before + step) behind
-    pub first : records_left class (reads group) texts before s ≡ record_at class (reads group) texts (part_of bytes f.from f.to) (before + step) ∷ records_left class (reads group) texts (before + step) behind
+    pub first : records_left class (reads group) texts before s ≡ record_at class (reads group) texts w (before + step) ∷ records_left class (reads group) texts (before + step) behind
 
-  module _ (texts : Window) (bytes : List ℕ) (before step : ℕ) (s behind : Standing) (f : Field) (l : AreSoundLeft class boxing texts before s) (same : s.window.bytes ≡ bytes)
-      (step_is : (fields : Fields) → message_at (Record class) (part_of bytes f.from f.to) ≡ Ok fields → step ≡ step_of fields)
+  module _ (texts w : Window) (before step : ℕ) (s behind : Standing) (f : Field) (l : AreSoundLeft class boxing texts before s) (there : w ≡ part_of s.window.bytes f.from f.to)
+      (step_is : (fields : Fields) → message_at (Record class) w ≡ Ok fields → step ≡ step_of fields)
       (part : behind.part ≡ s.part) (window : IsWindow behind.window) where
     stepped_by : (fields : Fields) → left_in s ≡ Ok fields → AreRecords fields → AllHold (flat_map (boxing.facts l.amid.beside l.amid.block) (with_before l.prev (entries_from before (messages_in fields)))) → IsNext s behind f fields
-        → Stepped texts bytes before step s behind f
+        → Stepped texts w before step s behind f
     stepped_by ends e are facts n = absurd n
     stepped_by (has_number a key value rest) e are facts n = absurd are
     stepped_by (has_bytes a key text rest) e are facts n = absurd are
     stepped_by (has_numbers a key values rest) e are facts n = absurd are
     stepped_by (has_message a key inner rest) e are facts n =
-        let read : message_at (Record class) (part_of bytes f.from f.to) ≡ Ok inner =
-        subst (λ (bs : List ℕ). message_at (Record class) (part_of bs f.from f.to) ≡ Ok inner) same (held_record class s f inner l.part (n.1 ∙ are.0) n.2) in
+        let read : message_at (Record class) w ≡ Ok inner =
+        subst (λ (w : Window). message_at (Record class) w ≡ Ok inner) (sym there) (held_record class s f inner l.part (n.1 ∙ are.0) n.2) in
         let ordinal : before + step ≡ before + step_of inner = ap (λ (k : ℕ). before + k) (step_is inner read) in
         let entry : Entry = record { at = a; ordinal = before + step_of inner; fields = inner } in
         let others : ℕ → List Entry = λ k. entries_from k (messages_in rest) in
@@ -84,10 +84,10 @@ module _ {A : Type 0} (class : Boxed) (boxing : Boxing) (reads : List ℕ → Re
               ap stood e ∙ ap (λ (x : A). x ∷ map shown (others (before + step_of inner))) (law.plain group (only_texts (texts_at texts)) entry)
               ∙ ap (λ (k : ℕ). shown (only_fields k inner) ∷ map shown (others k)) (sym ordinal)
               ∙ ap (λ (r : Result Fields FileBreak). shown_as (before + step) r ∷ map shown (others (before + step))) (sym read)
-              ∙ ap (λ (r : Result Fields FileBreak). record_at class (reads group) texts (part_of bytes f.from f.to) (before + step) ∷ after (before + step) r) (sym n.3);
+              ∙ ap (λ (r : Result Fields FileBreak). record_at class (reads group) texts w (before + step) ∷ after (before + step) r) (sym n.3);
         }
 
-    pub stepped : ((fields : Fields) → left_in s ≡ Ok fields → IsNext s behind f fields) → Stepped texts bytes before step s behind f
+    pub stepped : ((fields : Fields) → left_in s ≡ Ok fields → IsNext s behind f fields) → Stepped texts w before step s behind f
     stepped next = stepped_by l.fields l.left l.are l.facts (next l.fields l.left)
 
   -- where no field comes, no record is left

@@ -49,7 +49,7 @@ pub checked_blocks : (class : Boxed) (boxing : Boxing) (w : Window) (kept : Kept
 unfolding section_facts
 checked_blocks class boxing w kept h =
     let section = section_in h.is.fields in
-    blocks_hold class boxing h.beside w.bytes kept.blocks.items section.blocks h.few h.is.blocks (all_behind Holds _ (flat_map (block_facts boxing h.beside) section.blocks) (all_behind Holds _ _ h.is.sound))
+    blocks_hold class boxing h.beside w.bytes kept.blocks.items section.blocks h.few h.is.blocks (all_behind Holds _ (flat_map (block_facts boxing h.beside) section.blocks) h.is.sound)
 
 module _ {A : Type 0} (class : Boxed) (boxing : Boxing) (reads : List ℕ → Reading A) (id_of : A → Id) (law : IsReading boxing reads id_of) (group : List ℕ) where
   spans_read : (bytes : List ℕ) (spans : List Payload) (blocks : List Block) → AreSpans class bytes spans blocks → records_of class (reads group) bytes spans ≡ map (block_records (reads group)) blocks
