@@ -85,13 +85,3 @@ module _ {A : Type 0} (class : Boxed) (boxing : Boxing) (reads : List ℕ → Re
             ∙ ap (λ (fields : Fields). records_or_none (block_with 0 fields)) (sym b.is)
             ∙ ap (λ (r : Result Fields FileBreak). records_or_none (block_with 0 (fields_read r))) (sym h.read);
       }
-
-  not_empty : (R : Entry → A) (entries : List Entry) → (nat_le 1 (length entries) && nat_le (length entries) 64) ≡ true → map R entries ≢ []
-  not_empty R [] e none = absurd cc
-  not_empty R (x ∷ xs) e none = absurd cc
-
-  -- a sound block has a record
-  pub some_record : (w : Window) → HoldsBlock class boxing w → records_at class (reads group) w ≢ []
-  some_record w h none =
-      not_empty (reads group h.block) h.block.entries h.facts.0
-      (sym (ap (λ (r : Result Fields FileBreak). records_or_none (block_with 0 (fields_read r))) h.read ∙ any_place h.at h.fields h.block h.is) ∙ none)

@@ -1,13 +1,14 @@
 -- Parts of a section in which every rule holds.
-use Rattle.std.specs.Prelude.{◌≡◌, ◌≤◌, ℕ, List, length, flat_map, Option, Some, Ok}
-use Rattle.std.specs.List.{AllByRecursion}
+use Rattle.std.specs.Prelude.{◌≡◌, ◌≤◌, ℕ, List, length, flat_map, true, Option, Some, Ok}
+use Rattle.std.specs.List.{AllByRecursion, list_all}
 use Rattle.obf_wire.specs.Fields.{Window, IsWindow, part_of}
 use Rattle.file_grammar.specs.declared.parts.Boxed.{Boxed}
 use Rattle.file_grammar.specs.declared.parts.Part.TheVariants.{Block as BlockPart, Record, Texts}
-use Rattle.file_grammar.specs.BoxRules.{Beside, Boxing, block_facts, with_before}
+use Rattle.coord_delta.specs.Steps.{Place, places_from}
+use Rattle.file_grammar.specs.BoxRules.{Beside, Boxing, block_facts, is_on_grid, with_before}
 use Rattle.file_grammar.specs.Facts.{AllHold}
 use Rattle.file_grammar.specs.Messages.{Fields}
-use Rattle.file_grammar.specs.Readings.{message_at}
+use Rattle.file_grammar.specs.Readings.{message_at, numbers_at}
 use Rattle.file_grammar.specs.Sections.{Block, Entry, block_with, entries_from, messages_in, texts_in}
 use Rattle.file_grammar.specs.Walks.{Standing, left_in}
 use Rattle.boxed_exact.specs.declared.fields.Payload.{Payload}
@@ -68,3 +69,9 @@ module _ (class : Boxed) (boxing : Boxing) where
     pub beside : Beside
     pub few : length beside.rules ≤ 100000
     pub is : IsKept class boxing beside w kept
+
+-- the window holds steps that lead from a place to places on the grid
+pub record HoldsSteps (from : Place) (w : Window) : Type 0 where
+  pub numbers : List ℕ
+  pub read : numbers_at w ≡ Ok numbers
+  pub on_grid : list_all is_on_grid (places_from from numbers) ≡ true

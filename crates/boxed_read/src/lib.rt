@@ -11,11 +11,13 @@
 mod class;
 mod cursor;
 mod entries;
+mod parts;
 mod section;
 mod view;
 
 pub use class::ReadClass;
 pub use cursor::AllCursor;
 pub use entries::Entries;
+pub use parts::{object, one_point, points, text};
 pub use section::Section;
 pub use view::View;

@@ -6,6 +6,7 @@ ghost use Rattle.boxed_read.specs.Records.{record_at};
 ghost use Rattle.boxed_read.specs.Sound.{IsSoundRecord};
 
 use crate::class::ReadClass;
+use crate::parts::object;
 use live_model::ObjId;
 use obf_wire::Window;
 use owned_data::Mem;
@@ -58,7 +59,7 @@ impl<'a, C: ReadClass> View<'a, C> {
     pub fn id(&self) -> ObjId
         ensures { result ≡ C.id_of self.now }
     {
-        ObjId::from_ordinal(self.ordinal).unwrap()
+        object(self.ordinal)
     }
 
     /// The record.
