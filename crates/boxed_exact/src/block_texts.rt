@@ -24,11 +24,19 @@ impl<'a> BlockTexts<'a> {
     pub fn get(self, number: u64) -> &'a [u8]
         ensures { (there : List (Placed (List ℕ))) → AreTexts self.entry there → result.now ≡ text_of there number }
     {
-        if number == 0 {
-            return &[];
-        }
-        text_at(self.window, number - 1)
+        text_of(self.window, number)
     }
+}
+
+/// The text of a number among those in a window: the empty one for 0, else the one at the index before it; the empty one too
+/// where there is none. It goes over the texts before it.
+pub fn text_of(window: Window<'_>, number: u64) -> &[u8]
+    ensures { (fields : Fields) → message_at Texts (range_of window.entry) ≡ Ok fields → result.now ≡ text_of (texts_in fields) number }
+{
+    if number == 0 {
+        return &[];
+    }
+    text_at(window, number - 1)
 }
 
 /// The text of an index; the empty one where there is none.

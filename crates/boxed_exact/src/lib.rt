@@ -22,7 +22,7 @@ mod section;
 mod texts;
 
 pub use around::Around;
-pub use block_texts::BlockTexts;
+pub use block_texts::{BlockTexts, text_of};
 pub use blocks::BlockSeen;
 pub use class::{CheckClass, Checked, Seen};
 pub use edges::Edges;

@@ -1,7 +1,7 @@
 pub mod Blocks
 pub mod EntryFacts
 pub mod Fields
-pub mod Listed
+pub mod MapReading
 pub mod MapOrder
 pub mod MapLawful
 pub mod Packed

@@ -6,16 +6,15 @@
 //! hold, and which records a section is, is said by the definitions of `file_grammar`, which later sections share.
 //!
 //! The layer above may rely on this: `write` appends exactly the packed bytes, or nothing; `MapClass` is checked by `boxed_check`, which
-//! answers exactly whether the form is good and every rule holds, or the first break; of a section in which every rule holds `list`
-//! gives exactly the records, and nothing that stands in it is an error; and what is packed is of good form, breaks no rule, and is read
-//! as the same records.
+//! answers exactly whether the form is good and every rule holds, or the first break, and read by `boxed_read`, which gives exactly the
+//! records; and what is packed is of good form, breaks no rule, and is read as the same records.
 #![tactic(auto)]
 
 mod checking;
 mod class;
 mod entries;
 mod laws;
-mod list;
+mod reading;
 mod record_rules;
 mod writing;
 
@@ -24,6 +23,5 @@ pub use laws::{
     any_order_packs_the_same, ordinals_name_objects, packed_sections_are_good,
     packing_keeps_each_record, sound_sections_fit,
 };
-pub use list::Section;
 pub use record_rules::Key;
 pub use writing::write;

@@ -24,7 +24,8 @@ use Rattle.live_model.specs.declared.records.Rec.TheVariants.{Map}
 use Rattle.live_model.specs.Maps.{in_order, placed}
 use Rattle.live_model.specs.Records.{record_cmp}
 use Rattle.live_model.specs.Rules.{rule_lines, rules_text, spelled_rules}
-use Rattle.map_section.specs.Listed.{HoldsSection}
+use Rattle.file_grammar.specs.declared.parts.Boxed.TheVariants.{Map as MapPart}
+use Rattle.boxed_read.specs.Sound.{IsChecked}
 use Rattle.obf_reader.specs.Images.{IsImage, IsImageFile, Seen, map_window}
 use Rattle.file_grammar.proofs.Earlier.{one_first_break_law}
 use Rattle.file_grammar.proofs.FileLaws.{read_of}
@@ -111,21 +112,15 @@ few_of text (Some spelled) rules e =
     let few = leb-true (length spelled) 100000 (and_parts (nat_le (length spelled) 100000) (bytes_eq text (rules_text spelled)) kept.0).0 in
     subst (λ (rules : List Rule). length rules ≤ 100000) kept.1 few
 
--- the map section of an image is sound
-pub section_holds : (image : Seen) → IsImage image → HoldsSection (map_window image)
-unfolding file_facts
-section_holds image i =
+-- the map section of an image was checked
+pub section_checked : (image : Seen) → IsImage image → IsChecked MapPart map_boxing (map_window image) image.kept
+section_checked image i =
     let h = i.holds in
-    let none : first_failing (facts_in (file_in h.fields)) ≡ None = ap break_in_file (sym h.form) ∙ i.unbroken in
-    let all = all_hold h.fields h.parts none h.are in
     let rules : unwrap_or (rules_in h.parts.rules.value) [] ≡ image.rules = ap (λ (o : Option (List Rule)). unwrap_or o []) h.rules in
     record {
-      window = h.inside;
       beside = beside h.parts;
       few = subst (λ (rules : List Rule). length rules ≤ 100000) (sym rules) (few_of h.parts.rules.value (spelled_rules (rule_lines h.parts.rules.value)) image.rules h.rules);
-      fields = h.parts.map;
-      read = h.map;
-      sound = (one_first_break_law (section_facts map_boxing (beside h.parts) (section_in h.parts.map))).none.1 all.1.1.1.1.1.1;
+      is = h.kept;
     }
 
 pub some_rules : (r : Option (List Rule)) (rules : List Rule) → is_some r ≡ true → rules ≡ unwrap_or r [] → r ≡ Some rules

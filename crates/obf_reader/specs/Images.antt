@@ -15,9 +15,9 @@ use Rattle.file_grammar.specs.MapRules.{map_boxing, map_records_in}
 use Rattle.file_grammar.specs.Messages.{Fields}
 use Rattle.file_grammar.specs.Readings.{message_at}
 use Rattle.file_grammar.specs.Sections.{section_in}
+use Rattle.boxed_exact.specs.declared.fields.Payload.{Payload}
 use Rattle.boxed_check.specs.declared.kept.Kept.{Kept}
 use Rattle.boxed_check.specs.Keeping.{IsKept}
-use Rattle.map_section.specs.declared.list.Section.{Section}
 use Rattle.obf_reader.specs.Heads.{IsHeadOf}
 
 -- a file as its reader keeps it: marks are ordinals, the section of map records is where it stands, what its check left, and
@@ -27,7 +27,7 @@ pub record Seen : Type 0 where
   pub head : Head
   pub rules : List Rule
   pub marks : List ℕ
-  pub map : Section
+  pub map : Payload
   pub kept : Kept
   pub records : ℕ
 

@@ -1,6 +1,6 @@
 //! A map file that was read.
 
-ghost use Rattle.std.specs.Prelude.{◌≡◌, ◌==◌, None, Some, length, slice_get, true, IfErr, IfOk, IfSome, MatchOption, Ok};
+ghost use Rattle.std.specs.Prelude.{◌≡◌, ◌==◌, None, Some, length, map, slice_get, true, IfErr, IfOk, IfSome, MatchOption, Ok};
 ghost use Rattle.std.specs.List.{list_all, list_any};
 ghost use Rattle.std.specs.Ordering.{nat_cmp};
 ghost use Rattle.live_model.specs.Ids.{ordinal};
@@ -17,7 +17,8 @@ ghost use Rattle.boxed_exact.specs.Breaks.{section_break as break_of_section};
 ghost use Rattle.boxed_exact.specs.Sides.{AreRising, beside, ordinals_of};
 ghost use Rattle.file_grammar.specs.Messages.{Fields};
 ghost use Rattle.file_grammar.specs.Readings.{IsInMemory, message_at};
-ghost use Rattle.map_section.specs.Listed.{HoldsSection};
+ghost use Rattle.file_grammar.specs.Listed.{block_records};
+ghost use Rattle.map_section.specs.MapLawful.{map_reads};
 ghost use Rattle.obf_reader.specs.Images.{IsImage, IsImageFile, IsImageOf, map_window};
 ghost use Rattle.obf_reader.specs.Parts.{AreParts, IsReadOf, beside_of, marks_of, own_facts};
 ghost use Rattle.obf_reader.specs.Reads.{IsGoodRead, IsMapKept};
@@ -28,10 +29,11 @@ use crate::heads::head_of;
 use crate::parts::{PartsRead, check_parts, read_parts};
 use crate::top::top_of;
 use boxed_check::{Kept, see_section, survey};
-use boxed_exact::{Around, check_exactly};
+use boxed_exact::{Around, Payload, check_exactly};
 use file_grammar::{FirstBreak, Part, form};
 use live_model::ObjId;
-use map_section::{MapClass, Section};
+use boxed_read::Section;
+use map_section::MapClass;
 use obf_wire::{FileBreak, FileError, Marks, Window};
 use owned_data::{Mem, NoMemory};
 use stamp_core::Head;
@@ -47,7 +49,7 @@ pub struct Image {
     head: Head,
     rules: Rules,
     marks: Vec<u64>,
-    map: Section,
+    map: Payload,
     kept: Kept,
 }
 
@@ -94,16 +96,12 @@ impl Image {
         requires { IsGoodRead bytes.items parts kept }
         ensures { IsImageOf bytes.items result }
     {
-        let map = Section {
-            from: parts.map.from,
-            to: parts.map.to,
-        };
         Image {
             bytes,
             head: head_of(parts.head),
             rules: parts.rules.rules,
             marks: parts.marks.marks,
-            map,
+            map: parts.map,
             kept,
         }
     }
@@ -152,13 +150,20 @@ impl Image {
         self.marks.len()
     }
 
-    /// The section of map records. Its records can be listed from the bytes of the file.
-    #[tactic(auto, using(crate::proofs::Images::section_holds))]
-    pub fn map(&self) -> &Section
-        ensures map { result.now ≡ self.now.map }
-        ensures sound { HoldsSection (map_window self.now) }
+    /// The section of map records: the records of each block, in the order of the file.
+    #[tactic(auto, using(crate::proofs::Images::section_checked))]
+    pub fn map(&self) -> Section<'_, MapClass>
+        ensures { (fields : Fields) → message_at (Boxes Map) (map_window self.now) ≡ Ok fields → result ≡ map (block_records map_reads) (section_in fields).blocks }
     {
-        &self.map
+        let window = Window::new(self.bytes.as_slice(), self.map.from, self.map.to);
+        Section::new(window, &self.kept)
+    }
+
+    /// Where the section of map records stands.
+    pub fn map_span(&self) -> Payload
+        ensures { result ≡ self.now.map }
+    {
+        self.map
     }
 
     /// How many map records the file has.

@@ -6,3 +6,4 @@ pub mod Packed
 pub mod PoiOrder
 pub mod PoiLawful
 pub mod PoiReads
+pub mod PoiReading

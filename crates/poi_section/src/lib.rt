@@ -18,6 +18,7 @@ mod group_rules;
 mod kept;
 mod laws;
 mod one_pass;
+mod reading;
 mod record_rules;
 mod writing;
 

@@ -1,0 +1,4 @@
+pub mod EntryWalk
+pub mod BlockRead
+pub mod SectionRead
+pub mod PointWalk
