@@ -22,3 +22,4 @@ pub use errors::RuleError;
 pub use laws::{readings_are_exact, tables_read_back};
 pub use live_model::{Class, Rule, RuleBreak, RuleKind, Shape};
 pub use table::Rules;
+pub use values::{read_category, read_zoom};

@@ -6,7 +6,7 @@ ghost use Rattle.live_model.specs.Rules.{IsRule, rule_of, rule_in, rule_fields};
 ghost use Rattle.tag_rules.specs.Readings.{AreFields, ArePieces, IsFieldsCause, IsRead, IsRowCause, seen};
 
 use crate::errors::{RuleError, broken};
-use crate::values::{admitted, class, shape, text, zoom};
+use crate::values::{admitted, class, read_zoom, shape, text};
 use live_model::{Rule, RuleKind};
 use std::alloc::Global;
 use std::str::from_utf8;
@@ -93,7 +93,7 @@ fn rule(alloc: Global, fields: &Fields<'_>, end: usize) -> Result<Rule, RuleErro
     };
     let key = text(alloc, &fields.key)?;
     let value = admitted(alloc, &fields.value)?;
-    let Some(zoom) = zoom(fields.zoom.bytes) else {
+    let Some(zoom) = read_zoom(fields.zoom.bytes) else {
         return Err(broken(fields.zoom.at, RuleKind::BadZoom));
     };
     let class = class(alloc, shape, &fields.class)?;

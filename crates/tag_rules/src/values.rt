@@ -27,9 +27,9 @@ pub(crate) fn shape(bytes: &[u8]) -> Option<Shape>
     }
 }
 
-/// One or two digits, at most 22.
+/// The zoom that a field spells: one or two digits, at most 22. `None` exactly where it spells none.
 #[tactic(auto, unfolding(live_model::specs::Rules::zoom_of))]
-pub(crate) fn zoom(bytes: &[u8]) -> Option<u8>
+pub fn read_zoom(bytes: &[u8]) -> Option<u8>
     ensures value { result ≡ zoom_of bytes.now }
     ensures within { IfSome result (λ zoom. zoom ≤ 22) }
 {
@@ -132,11 +132,22 @@ fn poi(alloc: Global, bytes: &[u8]) -> Mem<Option<Class>>
     let Some(category) = behind_poi(bytes) else {
         return Ok(None);
     };
-    if !is_category(category) {
+    match read_category(alloc, category)? {
+        Some(category) => Ok(Some(Class::Poi(category))),
+        None => Ok(None),
+    }
+}
+
+/// The category of points of interest that a field names: 1 to 32 bytes out of `a` to `z`, `0` to `9` and `_`. `None` exactly
+/// where it names none.
+pub fn read_category(alloc: Global, bytes: &[u8]) -> Mem<Option<Text>>
+    ensures { IfOk result (λ found. MatchOption found (is_category bytes.now ≡ false) (λ category. (is_category bytes.now ≡ true) × (category ≡ bytes.now))) }
+{
+    if !is_category(bytes) {
         return Ok(None);
     }
-    let category = Text::copied(alloc, name(category))?;
-    Ok(Some(Class::Poi(category)))
+    let category = Text::copied(alloc, name(bytes))?;
+    Ok(Some(category))
 }
 
 // What stands behind `poi.`, where the bytes begin so.

@@ -1,0 +1,13 @@
+# Completions of obf for bash.
+_obf() {
+    local word=${COMP_WORDS[COMP_CWORD]}
+    COMPREPLY=()
+    if [ "$COMP_CWORD" -eq 1 ]; then
+        mapfile -t COMPREPLY < <(compgen -W "nodes dump build check" -- "$word")
+        return
+    fi
+    case ${COMP_WORDS[1]}:$COMP_CWORD in
+        nodes:3 | dump:2 | build:[234] | check:2) mapfile -t COMPREPLY < <(compgen -f -- "$word") ;;
+    esac
+}
+complete -o filenames -F _obf obf
