@@ -1,2 +1,4 @@
-pub mod Packed
+pub mod Breaks
+pub mod Kept
 pub mod Keyed
+pub mod Packed

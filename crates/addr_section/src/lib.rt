@@ -4,10 +4,19 @@
 //! entry for each, with its first and its last key. `specs/Packed.antt` says which bytes are written. What has to hold, and which
 //! records a section is, is said by `AddressRules` of `file_grammar`.
 //!
-//! The layer above may rely on this: `write` appends exactly the packed bytes, in whichever order the records are given, or nothing.
+//! The layer above may rely on this: `write` appends exactly the packed bytes, in whichever order the records are given, or nothing;
+//! `check` finds the first break of a whole section exactly, and where it finds none, what it keeps of the two lists is so.
 #![tactic(auto)]
 
+mod checked;
+mod exact;
+mod kept;
+mod one_pass;
 mod order;
 mod writing;
 
+pub use checked::check;
+pub use exact::check_exactly;
+pub use kept::{AddressesKept, EntryKept, ListKept};
+pub use one_pass::see;
 pub use writing::write;

@@ -8,4 +8,4 @@
 
 mod keys;
 
-pub use keys::{is_prefix, key};
+pub use keys::{is_key_of, is_prefix, key};
