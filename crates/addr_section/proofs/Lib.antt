@@ -1,3 +1,9 @@
+pub mod AddressAsking
+pub mod AddressShape
 pub mod Good
+pub mod ListAsking
+pub mod ListShape
 pub mod Orders
+pub mod SortKeys
 pub mod Steps
+pub mod Whole

@@ -3,7 +3,7 @@ use Rattle.std.specs.Prelude.{◌≡◌, ℕ, List, [], ◌∷◌, filter_map, l
 use Rattle.obf_wire.specs.Fields.{Window, IsWindow, part_of}
 use Rattle.file_grammar.specs.declared.parts.Part.TheVariants.{Addresses, KeyedBlock as BlockPart}
 use Rattle.file_grammar.specs.declared.parts.Version.{Version}
-use Rattle.file_grammar.specs.AddressRules.{Address, KeyEntry, KeyedBlock, KeyedList, address_records_in, address_with, addresses_facts, addresses_of}
+use Rattle.file_grammar.specs.AddressRules.{Address, Addresses as AddressLists, KeyEntry, KeyedBlock, KeyedList, address_records_in, address_with, addresses_facts, addresses_of}
 use Rattle.file_grammar.specs.BoxRules.{Beside}
 use Rattle.file_grammar.specs.Facts.{AllHold}
 use Rattle.file_grammar.specs.Messages.{Fields}
@@ -61,6 +61,11 @@ AreBlocksKept version bytes spans blocks = ⊥
 pub record IsListKept (version : Version) (bytes : List ℕ) (kept : ListKept) (list : KeyedList) : Type 0 where
   pub entries : AreEntriesKept bytes kept.entries.items list.entries
   pub blocks : AreBlocksKept version bytes kept.blocks.items list.blocks
+
+-- both lists stand so among the bytes
+pub record AreListsKept (version : Version) (bytes : List ℕ) (names houses : ListKept) (addresses : AddressLists) : Type 0 where
+  pub names_are : IsListKept version bytes names addresses.names
+  pub houses_are : IsListKept version bytes houses addresses.houses
 
 -- the window holds addresses of which every rule holds, whose lists stand so, and so many records
 pub record AreAddressesKept (version : Version) (beside : Beside) (w : Window) (kept : AddressesKept) : Type 0 where

@@ -8,11 +8,18 @@
 //! `check` finds the first break of a whole section exactly, and where it finds none, what it keeps of the two lists is so.
 #![tactic(auto)]
 
+mod address_rules;
+mod addresses;
+mod block_rules;
 mod checked;
 mod exact;
 mod kept;
+mod languages;
+mod layout;
+mod list_rules;
 mod one_pass;
 mod order;
+mod spans;
 mod writing;
 
 pub use checked::check;

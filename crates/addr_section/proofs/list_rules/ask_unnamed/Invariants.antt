@@ -1,0 +1,14 @@
+use Rattle.std.proofs.Common.{ℕ, List, length}
+use Rattle.file_grammar.specs.AddressRules.{KeyEntry}
+use Rattle.addr_section.specs.Kept.{AreEntriesKept}
+use Rattle.addr_section.proofs.ListAsking.{UnnamedLeft}
+use Rattle.addr_section.proofs.list_rules.ask_unnamed.Given as goal
+
+-- the entries that are left
+abbrev pub invariant-loop-entry : goal.invariant-loop-entry
+invariant-loop-entry l = record {
+  left : (its : List KeyEntry) (bytes : List ℕ) → AreEntriesKept bytes l.entries its → UnnamedLeft bytes its l.rest l.initial.first l.first;
+}
+
+abbrev pub decreases-loop-entry : goal.decreases-loop-entry
+decreases-loop-entry l = length l.rest
