@@ -24,7 +24,7 @@ spelled at (a_message key inner rest) =
 message_for : (P Q : Part → Type 0) (c : Option Content) → ((sub : Part) → P sub → Q sub) → IsMessageFor P c → IsMessageFor Q c
 message_for P Q None f m = m
 message_for P Q (Some Number) f m = m
-message_for P Q (Some Version) f m = m
+message_for P Q (Some (Version version)) f m = m
 message_for P Q (Some Bytes) f m = m
 message_for P Q (Some (Numbers group)) f m = m
 message_for P Q (Some (Message sub)) f m = f sub m

@@ -57,7 +57,7 @@ module _ (m : ℕ) (again : Again m) (part : Part) (last : Option ℕ) (w : Wind
   inside_breaks : (f : Field) (content : Option Content) → IsInside w f → Comes part last w f → content_of part f.key ≡ content → filled message_at w.bytes f content ≡ held_err b → BreaksSo part last w b
   inside_breaks f None i comes is e = plain f None comes is tt e
   inside_breaks f (Some Number) i comes is e = plain f (Some Number) comes is tt e
-  inside_breaks f (Some Version) i comes is e = plain f (Some Version) comes is tt e
+  inside_breaks f (Some (Version version)) i comes is e = plain f (Some (Version version)) comes is tt e
   inside_breaks f (Some Bytes) i comes is e = plain f (Some Bytes) comes is tt e
   inside_breaks f (Some (Numbers group)) i comes is e = plain f (Some (Numbers group)) comes is tt e
   inside_breaks f (Some (Message sub)) i comes is e =

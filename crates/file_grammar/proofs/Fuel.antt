@@ -27,7 +27,7 @@ next_same (Err b) f g same = refl
 filled_same : (f g : Part → Window → Result Fields FileBreak) (all : List ℕ) (field : Field) (content : Option Content) → ((part : Part) → f part (payload_of all field) ≡ g part (payload_of all field)) → filled f all field content ≡ filled g all field content
 filled_same f g all field None same = refl
 filled_same f g all field (Some Number) same = refl
-filled_same f g all field (Some Version) same = refl
+filled_same f g all field (Some (Version version)) same = refl
 filled_same f g all field (Some Bytes) same = refl
 filled_same f g all field (Some (Numbers group)) same = refl
 filled_same f g all field (Some (Message part)) same = rw (same part) refl

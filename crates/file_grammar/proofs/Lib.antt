@@ -3,6 +3,7 @@ pub mod Fuel
 pub mod Lists
 pub mod Next
 pub mod Ranges
+pub mod PartTables
 pub mod RowKinds
 pub mod SpelledLists
 pub mod ReadIsSpelled
@@ -14,7 +15,6 @@ pub mod HourNumbers
 pub mod HeadsByNumbers
 pub mod FileLaws
 pub mod Built
-pub mod StatedTables
 pub mod OneTable
 pub mod FieldBreaks
 pub mod FormBreaks

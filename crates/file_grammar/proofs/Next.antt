@@ -8,7 +8,7 @@ use Rattle.obf_wire.specs.Fields.{Window, behind}
 use Rattle.file_grammar.specs.declared.parts.Part.{Part}
 use Rattle.file_grammar.specs.declared.parts.Content.{Content}
 use Rattle.file_grammar.specs.declared.parts.Content.TheVariants.{Number, Version, Bytes, Numbers, Message}
-use Rattle.file_grammar.specs.Tables.{group_size, content_of}
+use Rattle.file_grammar.specs.Tables.{group_size, version_number, content_of}
 use Rattle.file_grammar.specs.Messages.{Fields, ends}
 use Rattle.file_grammar.specs.Readings.{◌>>=◌, of_file, payload_of, numbers_at, groups_at, in_groups, filled, continued, message_from, message_at}
 use Rattle.file_grammar.specs.Walks.{IsTurn, Standing, left_in, IsNext, ComesNext}
@@ -42,8 +42,8 @@ held_is : (part : Part) (last : Option ℕ) (w : Window) (f : Field) (content : 
     → content_of part f.key ≡ content → filled message_at w.bytes f content ≡ Ok held → left_in (behind_of part w f) ≡ Ok rest → IsNext (standing part last w) (behind_of part w f) f (held rest)
 held_is part last w f None held rest is e left = absurd cc
 held_is part last w f (Some Number) held rest is e left = subst (λ (h : Fields → Fields). IsNext (standing part last w) (behind_of part w f) f (h rest)) (ok_is _ held e) (refl, refl, refl, left)
-held_is part last w f (Some Version) held rest is e left =
-    elim (chosen (f.value == 1) _ _ (Ok held) e) [
+held_is part last w f (Some (Version version)) held rest is e left =
+    elim (chosen (f.value == version_number version) _ _ (Ok held) e) [
       | inl c ↦ subst (λ (h : Fields → Fields). IsNext (standing part last w) (behind_of part w f) f (h rest)) (ok_is _ held c.1) (refl, refl, refl, left)
       | inr c ↦ absurd cc
     ]

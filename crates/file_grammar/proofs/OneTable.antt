@@ -12,11 +12,9 @@ use Rattle.std.proofs.lemmas.List.{append-nil}
 use Rattle.ordered_lists.specs.Ordered.{IsRisingBy, put_all}
 use Rattle.ordered_lists.proofs.PutAll.{put_all-rising}
 use Rattle.obf_wire.specs.Fields.{are_keys, has_wire_type}
-use Rattle.file_grammar.specs.declared.parts.Boxed.TheVariants.{Map, Poi, Road, Restriction}
-use Rattle.file_grammar.specs.declared.parts.Version.TheVariants.{One, Two}
 use Rattle.file_grammar.specs.declared.parts.Part.{Part}
-use Rattle.file_grammar.specs.declared.parts.Part.TheVariants.{File, Head, Boxes, Tree, Node, Block, Texts, Record, NoAddresses, NoRoads, NoBoxes, Nothing, Marks, Pois, Group, Addresses, Keyed, KeyEntry, KeyedBlock, Address, Routing}
 use Rattle.file_grammar.specs.declared.rows.Row.{Row}
+use Rattle.file_grammar.proofs.PartTables.{tables_fit}
 use Rattle.file_grammar.specs.Tables.{IsOneTable, Table, are_few, are_rows, content_of, keys_of, left_at, next_in, own, rise, rows_behind, tables}
 
 both : (a b : Bool) → (a && b) ≡ true → (a ≡ true) × (b ≡ true)
@@ -159,36 +157,9 @@ two_end row next (third ∷ rows) e many =
 
 -- ---- the tables of messages
 
-one_table : (part : Part) → IsOneTable part → list_all are_rows (tables part) ≡ true
-one_table File is = refl
-one_table Head is = refl
-one_table (Boxes class) is = refl
-one_table Tree is = absurd is
-one_table (Node levels) is = absurd is
-one_table (Block class) is = refl
-one_table Texts is = refl
-one_table (Record Map) is = refl
-one_table (Record Poi) is = refl
-one_table (Record Road) is = refl
-one_table (Record Restriction) is = refl
-one_table NoAddresses is = refl
-one_table NoRoads is = refl
-one_table NoBoxes is = refl
-one_table Nothing is = refl
-one_table Marks is = refl
-one_table Pois is = refl
-one_table Group is = refl
-one_table (Addresses version) is = refl
-one_table (Keyed version) is = refl
-one_table KeyEntry is = refl
-one_table (KeyedBlock version) is = refl
-one_table (Address One) is = refl
-one_table (Address Two) is = refl
-one_table Routing is = refl
-
 pub table_tested : (part : Part) (rows : Table) → IsOneTable part → tables part ≡ rows ∷ [] → are_rows rows ≡ true
 table_tested part rows is there =
-    let all = subst (λ (ts : List Table). list_all are_rows ts ≡ true) there (one_table part is) in
+    let all = subst (λ (ts : List Table). list_all are_rows ts ≡ true) there ((tables_fit part).one is) in
     sym (and_all (are_rows rows)) ∙ all
 
 -- ---- what a field holds

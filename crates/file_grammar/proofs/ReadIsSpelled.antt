@@ -12,7 +12,7 @@ use Rattle.coord_delta.proofs.NumberLists.{length-range, range-none}
 use Rattle.file_grammar.specs.declared.parts.Part.{Part}
 use Rattle.file_grammar.specs.declared.parts.Content.{Content}
 use Rattle.file_grammar.specs.declared.parts.Content.TheVariants.{Number, Version, Bytes, Numbers, Message}
-use Rattle.file_grammar.specs.Tables.{next_keys, may_end, content_of}
+use Rattle.file_grammar.specs.Tables.{version_number, next_keys, may_end, content_of}
 use Rattle.file_grammar.specs.Messages.{Fields, ends, has_number, has_bytes, has_numbers, has_message, spelling, inside, beyond, IsNumberFor, AreNumbersFor, IsMessageFor, HaveForm}
 use Rattle.file_grammar.specs.Readings.{◌>>=◌, of_file, payload_of, groups_at, filled, continued, message_from, message_at, IsInMemory}
 use Rattle.file_grammar.proofs.Inside.{chosen}
@@ -130,11 +130,11 @@ field_spelled part last w f (Some Number) held rest r is e messages others =
     let fits = content_fits part f.key Number is in
     let number : IsNumberFor (content_of part f.key) f.value = subst (λ (c : Option Content). IsNumberFor c f.value) (sym is) r.next.value_fits in
     subst (λ (h : Fields → Fields). Spells part last w (h rest)) (held_is _ held e) (number_spelled part last w f rest r fits.typed number others)
-field_spelled part last w f (Some Version) held rest r is e messages others =
-    let fits = content_fits part f.key Version is in
-    elim (chosen (f.value == 1) _ _ (Ok held) e) [
+field_spelled part last w f (Some (Version version)) held rest r is e messages others =
+    let fits = content_fits part f.key (Version version) is in
+    elim (chosen (f.value == version_number version) _ _ (Ok held) e) [
       | inl c ↦
-          let number : IsNumberFor (content_of part f.key) f.value = subst (λ (c : Option Content). IsNumberFor c f.value) (sym is) (eqb-true f.value 1 c.0) in
+          let number : IsNumberFor (content_of part f.key) f.value = subst (λ (c : Option Content). IsNumberFor c f.value) (sym is) (eqb-true f.value (version_number version) c.0) in
           subst (λ (h : Fields → Fields). Spells part last w (h rest)) (held_is _ held c.1) (number_spelled part last w f rest r fits.typed number others)
       | inr c ↦ absurd cc
     ]

@@ -1,67 +1,21 @@
 -- The key of a row fits what its field holds: a number has wire type 0, all else has a payload.
-use Rattle.std.proofs.Common.{◌≡◌, ℕ, zero, suc, ◌%◌, ◌^◌, ◌<◌, Bool, true, false, cond, [], ◌∷◌, Some, refl, sym, subst, ◌∙◌}
-use Rattle.std.specs.Prelude.{◌==◌, ◌&&◌, not, nat_lt, flat_map, find}
+use Rattle.std.proofs.Common.{◌≡◌, ℕ, ◌%◌, ◌^◌, ◌<◌, Bool, true, false, cond, [], ◌∷◌, Some, refl, sym, subst, ◌∙◌}
+use Rattle.std.specs.Prelude.{◌==◌, ◌&&◌, not, nat_lt, find}
 use Rattle.std.specs.List.{list_all}
 use Rattle.std.specs.Option.{option_map}
 use Rattle.std.proofs.lemmas.Bool.{ltb-true, eqb-true, not-true}
 use Rattle.obf_wire.specs.Fields.{payload_len}
-use Rattle.file_grammar.specs.declared.parts.Boxed.TheVariants.{Map, Poi, Road, Restriction}
-use Rattle.file_grammar.specs.declared.parts.Version.TheVariants.{One, Two}
 use Rattle.file_grammar.specs.declared.parts.Part.{Part}
-use Rattle.file_grammar.specs.declared.parts.Part.TheVariants.{File, Head, Boxes, Tree, Node, Block, Texts, Record, NoAddresses, NoRoads, NoBoxes, Nothing, Marks, Pois, Group, Addresses, Keyed, KeyEntry, KeyedBlock, Address, Routing}
 use Rattle.file_grammar.specs.declared.parts.Content.{Content}
 use Rattle.file_grammar.specs.declared.parts.Content.TheVariants.{Number, Version, Bytes, Numbers, Message}
 use Rattle.file_grammar.specs.declared.rows.Row.{Row}
-use Rattle.file_grammar.specs.Tables.{Table, tables, content_of, own}
-
--- the wire type of a key is that of a content
-abbrev pub has_type : Content → ℕ → Bool
-has_type Number key = key % 8 == 0
-has_type Version key = key % 8 == 0
-has_type Bytes key = not (key % 8 == 0)
-has_type (Numbers group) key = not (key % 8 == 0)
-has_type (Message part) key = not (key % 8 == 0)
-
--- the key is one of 64 bits, and of the type of its content
-abbrev fits_row : Row → Bool
-fits_row row = nat_lt row.key (2 ^ 64) && has_type row.content row.key
-
--- the rows of all tables of a message
-abbrev rows_of : Part → Table
-rows_of part = flat_map (λ table. table) (tables part)
-
-rows_fit : (part : Part) → list_all fits_row (rows_of part) ≡ true
-rows_fit File = refl
-rows_fit Head = refl
-rows_fit (Boxes class) = refl
-rows_fit Tree = refl
-rows_fit (Node zero) = refl
-rows_fit (Node (suc levels)) = refl
-rows_fit (Block class) = refl
-rows_fit Texts = refl
-rows_fit (Record Map) = refl
-rows_fit (Record Poi) = refl
-rows_fit (Record Road) = refl
-rows_fit (Record Restriction) = refl
-rows_fit NoAddresses = refl
-rows_fit NoRoads = refl
-rows_fit NoBoxes = refl
-rows_fit Nothing = refl
-rows_fit Marks = refl
-rows_fit Pois = refl
-rows_fit Group = refl
-rows_fit (Addresses version) = refl
-rows_fit (Keyed version) = refl
-rows_fit KeyEntry = refl
-rows_fit (KeyedBlock version) = refl
-rows_fit (Address One) = refl
-rows_fit (Address Two) = refl
-rows_fit Routing = refl
+use Rattle.file_grammar.specs.Tables.{Table, content_of, own}
+use Rattle.file_grammar.proofs.PartTables.{fits_row, has_type, rows_of, tables_fit}
 
 -- what a row holds in a message is of the kind that the row says
 own_type : (part : Part) (content : Content) (key : ℕ) → has_type content key ≡ has_type (own part content) key
 own_type part Number key = refl
-own_type part Version key = refl
+own_type part (Version version) key = refl
 own_type part Bytes key = refl
 own_type part (Numbers group) key = refl
 own_type part (Message inner) key = refl
@@ -97,7 +51,7 @@ found_fits part (row ∷ rows) key content fits e = by_test (row.key == key) ref
     by_test false is e others = others e
 
 pub content_fits : (part : Part) (key : ℕ) (content : Content) → content_of part key ≡ Some content → FitsContent key content
-content_fits part key content e = found_fits part (rows_of part) key content (rows_fit part) e
+content_fits part key content e = found_fits part (rows_of part) key content (tables_fit part).fit e
 
 -- a number has no payload, and a payload is as long as the number before it says
 pub no_payload : (key value : ℕ) → (key % 8 == 0) ≡ true → payload_len key value ≡ 0

@@ -11,14 +11,14 @@ use Rattle.obf_wire.specs.Fields.{◌>>=◌ as ◌>=>◌, filled as filled_at}
 use Rattle.file_grammar.specs.declared.parts.Part.{Part}
 use Rattle.file_grammar.specs.declared.parts.Content.{Content}
 use Rattle.file_grammar.specs.declared.parts.Content.TheVariants.{Number, Version, Bytes, Numbers, Message}
-use Rattle.file_grammar.specs.Tables.{next_keys, may_end, content_of}
+use Rattle.file_grammar.specs.Tables.{version_number, next_keys, may_end, content_of}
 use Rattle.file_grammar.specs.Messages.{Fields, ends, has_number, has_bytes, has_numbers, has_message}
 use Rattle.file_grammar.specs.Readings.{◌>>=◌, of_file, payload_of, groups_at, filled, continued, fields_at, message_from, message_at}
 use Rattle.file_grammar.proofs.Inside.{chosen}
 
 abbrev pub HoldsNumber : Option Content → Type 0
 HoldsNumber (Some Number) = Unit {0}
-HoldsNumber (Some Version) = Unit {0}
+HoldsNumber (Some (Version version)) = Unit {0}
 HoldsNumber content = ⊥
 
 abbrev pub HoldsNumbers : Option Content → Type 0
@@ -137,8 +137,8 @@ unfolding IsShaped
 held_shaped read shaped part last bytes f None held rest is comes e left = absurd cc
 held_shaped read shaped part last bytes f (Some Number) held rest is comes e left =
     subst (λ (h : Fields → Fields). IsShaped part last (h rest)) (ok_is _ held e) (comes, subst HoldsNumber (sym is) tt, left)
-held_shaped read shaped part last bytes f (Some Version) held rest is comes e left =
-    elim (chosen (f.value == 1) _ _ (Ok held) e) [
+held_shaped read shaped part last bytes f (Some (Version version)) held rest is comes e left =
+    elim (chosen (f.value == version_number version) _ _ (Ok held) e) [
       | inl c ↦ subst (λ (h : Fields → Fields). IsShaped part last (h rest)) (ok_is _ held c.1) (comes, subst HoldsNumber (sym is) tt, left)
       | inr c ↦ absurd cc
     ]
@@ -227,7 +227,7 @@ begins_number part last k (has_message at key inner rest) only more is s =
 no_both : (content : Option Content) → HoldsNumber content → HoldsNumbers content → ⊥
 no_both None a b = a
 no_both (Some Number) a b = b
-no_both (Some Version) a b = b
+no_both (Some (Version version)) a b = b
 no_both (Some Bytes) a b = b
 no_both (Some (Numbers group)) a b = a
 no_both (Some (Message part)) a b = b

@@ -13,7 +13,9 @@ use Rattle.coord_delta.proofs.NumberLists.{length-range}
 use Rattle.file_grammar.specs.declared.parts.Part.{Part}
 use Rattle.file_grammar.specs.declared.parts.Content.{Content}
 use Rattle.file_grammar.specs.declared.parts.Content.TheVariants.{Number, Version, Bytes, Numbers, Message}
-use Rattle.file_grammar.specs.Tables.{next_keys, may_end, content_of}
+use Rattle.file_grammar.specs.declared.parts.Version.{Version as VersionOf}
+use Rattle.file_grammar.specs.declared.parts.Version.TheVariants.{One, Two}
+use Rattle.file_grammar.specs.Tables.{version_number, next_keys, may_end, content_of}
 use Rattle.file_grammar.specs.Messages.{Fields, ends, has_number, has_bytes, has_numbers, has_message, spelling, inside, beyond, IsNumberFor, AreNumbersFor, IsMessageFor, MayCome, HaveForm}
 use Rattle.file_grammar.specs.Readings.{◌>>=◌, of_file, payload_of, filled, continued, message_from, message_at, IsInMemory}
 use Rattle.file_grammar.proofs.Fuel.{turn}
@@ -42,6 +44,11 @@ short_payload w head payload rest memory e =
     let size = sym (length-range w.bytes w.place w.end memory.window.ordered memory.window.within) ∙ ap length e ∙ length-append (head ++ payload) rest in
     omega (arith, size, length-append head payload, memory.window.ordered, memory.window.within, memory.few)
 
+-- the number of a version is small
+version_small : (version : VersionOf) → version_number version < 2 ^ 64
+version_small One = omega arith
+version_small Two = omega arith
+
 -- Fields by what they hold. The row of the key says what that is.
 
 number_read : (part : Part) (last : Option ℕ) (w : Window) (key value : ℕ) (rest : Fields) (c : Option Content) → IsInMemory w → content_of part key ≡ c → IsNumberFor c value → MayCome part last key
@@ -55,11 +62,11 @@ number_read part last w key value rest (Some Number) memory is fits among spelle
     let p = field_parts w (next_keys part last) (may_end part last) key value [] (spelling rest) memory.window among kind.key_fits fits none spelled in
     whole_read part last w (field_of w.place key value) (has_number w.place key value) rest memory.window p.read (rw is refl)
     (others (behind w (Some (field_of w.place key value))) (part_in w _ w.end memory p.ends memory.window.within) (omega (arith, none)) p.leaves)
-number_read part last w key value rest (Some Version) memory is fits among spelled others =
-    let kind = content_fits part key Version is in
+number_read part last w key value rest (Some (Version version)) memory is fits among spelled others =
+    let kind = content_fits part key (Version version) is in
     let none = no_payload key value kind.typed in
-    let p = field_parts w (next_keys part last) (may_end part last) key value [] (spelling rest) memory.window among kind.key_fits (omega (arith, fits)) none spelled in
-    let one : (value == 1) ≡ true = eq-eqb value 1 fits in
+    let p = field_parts w (next_keys part last) (may_end part last) key value [] (spelling rest) memory.window among kind.key_fits (subst (λ (n : ℕ). n < 2 ^ 64) (sym fits) (version_small version)) none spelled in
+    let one : (value == version_number version) ≡ true = eq-eqb value (version_number version) fits in
     whole_read part last w (field_of w.place key value) (has_number w.place key value) rest memory.window p.read (rw (is, one) refl)
     (others (behind w (Some (field_of w.place key value))) (part_in w _ w.end memory p.ends memory.window.within) (omega (arith, none)) p.leaves)
 number_read part last w key value rest (Some Bytes) memory is fits among spelled others = absurd fits
@@ -88,7 +95,7 @@ numbers_read : (part : Part) (last : Option ℕ) (w : Window) (key : ℕ) (value
     → message_from part last w ≡ Ok (has_numbers w.place key values rest)
 numbers_read part last w key values rest None memory is fit among spelled others = absurd fit
 numbers_read part last w key values rest (Some Number) memory is fit among spelled others = absurd fit
-numbers_read part last w key values rest (Some Version) memory is fit among spelled others = absurd fit
+numbers_read part last w key values rest (Some (Version version)) memory is fit among spelled others = absurd fit
 numbers_read part last w key values rest (Some Bytes) memory is fit among spelled others = absurd fit
 numbers_read part last w key values rest (Some (Numbers group)) memory is fit among spelled others =
     payload_read part last w key (flat_map varint values) (Numbers group) (has_numbers w.place key values) rest memory is (content_fits part key (Numbers group) is).typed among spelled
@@ -107,7 +114,7 @@ message_read : (part : Part) (last : Option ℕ) (w : Window) (key : ℕ) (inner
     → message_from part last w ≡ Ok (has_message w.place key inner rest)
 message_read part last w key inner rest None memory is form among spelled messages others = absurd form
 message_read part last w key inner rest (Some Number) memory is form among spelled messages others = absurd form
-message_read part last w key inner rest (Some Version) memory is form among spelled messages others = absurd form
+message_read part last w key inner rest (Some (Version version)) memory is form among spelled messages others = absurd form
 message_read part last w key inner rest (Some Bytes) memory is form among spelled messages others = absurd form
 message_read part last w key inner rest (Some (Numbers group)) memory is form among spelled messages others = absurd form
 message_read part last w key inner rest (Some (Message sub)) memory is form among spelled messages others =

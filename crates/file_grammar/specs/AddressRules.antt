@@ -81,7 +81,7 @@ keyed_list fields = record {
 
 -- What has to hold of an address.
 
--- the second is a house
+-- places are 0, streets 1, houses 2
 abbrev pub is_house_kind : ℕ → Bool
 is_house_kind kind = kind == 2
 

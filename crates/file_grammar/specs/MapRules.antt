@@ -1,5 +1,5 @@
 -- What has to hold of a map record in its block, and the record that it stands for.
-use Rattle.std.specs.Prelude.{ℕ, zero, suc, List, [], ◌∷◌, map, flat_map, length, Bool, true, false, ◌&&◌, ◌||◌, not, nat_lt, nat_le, ◌==◌, Option, slice_get, unsigned_abs}
+use Rattle.std.specs.Prelude.{ℕ, zero, suc, List, [], ◌∷◌, map, length, Bool, true, false, ◌&&◌, ◌||◌, not, nat_lt, nat_le, ◌==◌, Option, slice_get, unsigned_abs}
 use Rattle.std.specs.List.{list_all}
 use Rattle.std.specs.Option.{option_map_or}
 use Rattle.live_model.specs.declared.points.Point.{Point}
@@ -14,6 +14,7 @@ use Rattle.obf_wire.specs.declared.file.FileKind.TheVariants.{BadOrder, BadId, B
 use Rattle.file_grammar.specs.Messages.{Fields, has_number, has_numbers}
 use Rattle.file_grammar.specs.Facts.{Fact, fact}
 use Rattle.file_grammar.specs.Sections.{Placed, placed, Entry, Block, text_of, object_of, Section}
+use Rattle.file_grammar.specs.Listed.{records_in}
 use Rattle.file_grammar.specs.BoxRules.{follows, is_ordinal, is_node, is_way, Beside, is_marked, is_on_grid, Boxing}
 
 -- the fields of a map record
@@ -100,6 +101,10 @@ map_record_of block entry f = record {
   points = map point_from (places f.points.value);
 }
 
+-- the record that an entry of a block stands for
+abbrev pub map_read : Block → Entry → MapRec
+map_read block entry = map_record_of block entry (map_fields entry.fields)
+
 -- the records of a section in the order of the file
 abbrev pub map_records_in : Section → List MapRec
-map_records_in section = flat_map (λ block. map (λ entry. map_record_of block entry (map_fields entry.fields)) block.entries) section.blocks
+map_records_in section = records_in map_read section

@@ -3,7 +3,7 @@ use Rattle.std.specs.Prelude.{◌≡◌, ℕ, ◌+◌, ◌%◌, ◌^◌, ◌<◌
 use Rattle.std.specs.List.{AllByRecursion}
 use Rattle.obf_wire.specs.Varint.{varint}
 use Rattle.obf_wire.specs.Fields.{Window, left_of, is_among, content, field_spelling}
-use Rattle.file_grammar.specs.Tables.{group_size, next_keys, may_end, content_of}
+use Rattle.file_grammar.specs.Tables.{group_size, version_number, next_keys, may_end, content_of}
 use Rattle.file_grammar.specs.declared.parts.Part.{Part}
 use Rattle.file_grammar.specs.declared.parts.Content.{Content}
 use Rattle.file_grammar.specs.declared.parts.Content.TheVariants.{Number, Version, Bytes, Numbers, Message}
@@ -35,7 +35,7 @@ beyond at key value = inside at key value + value
 -- what a number may be, by its row
 abbrev pub IsNumberFor : Option Content → ℕ → Type 0
 IsNumberFor (Some Number) n = n < 2 ^ 64
-IsNumberFor (Some Version) n = n ≡ 1
+IsNumberFor (Some (Version version)) n = n ≡ version_number version
 IsNumberFor content n = ⊥
 
 -- what a list of numbers may be, by its row

@@ -1,5 +1,5 @@
 -- What has to hold of points of interest in their groups, and the records that they stand for.
-use Rattle.std.specs.Prelude.{ℕ, List, [], ◌∷◌, ◌++◌, filter_map, flat_map, map, length, Bool, ◌&&◌, ◌||◌, not, nat_le, nat_lt, Option, Some, None}
+use Rattle.std.specs.Prelude.{ℕ, List, [], ◌∷◌, filter_map, flat_map, length, Bool, ◌&&◌, ◌||◌, not, nat_le, nat_lt, Option, Some, None}
 use Rattle.std.specs.Ordering.{is_le}
 use Rattle.std.specs.Str.{is_utf8}
 use Rattle.live_model.specs.declared.records.PoiRec.{PoiRec}
@@ -11,6 +11,7 @@ use Rattle.file_grammar.specs.Messages.{Fields, has_number, has_bytes, has_numbe
 use Rattle.file_grammar.specs.Facts.{Fact, fact}
 use Rattle.file_grammar.specs.Sections.{Placed, placed, Entry, Block, Section, messages_in, object_of, section_in, text_of}
 use Rattle.file_grammar.specs.BoxRules.{Beside, Boxing, follows, is_marked, is_ordinal, section_facts, with_before}
+use Rattle.file_grammar.specs.Listed.{records_in}
 use Rattle.file_grammar.specs.RecordRules.{is_node_or_way, is_one_location, only_point, ordinals_rise}
 
 -- The records of a group.
@@ -101,7 +102,7 @@ poi_read category block entry = poi_record_of category block entry (poi_fields e
 
 -- the records of a group, in the order of its blocks
 abbrev pub group_records : Group → List PoiRec
-group_records group = flat_map (λ block. map (poi_read group.category.value block) block.entries) group.section.blocks
+group_records group = records_in (poi_read group.category.value) group.section
 
 -- the records of a section, group by group
 abbrev pub poi_records_in : Fields → List PoiRec

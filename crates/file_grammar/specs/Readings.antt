@@ -9,7 +9,7 @@ use Rattle.obf_wire.specs.declared.file.FileKind.TheVariants as kinds
 use Rattle.obf_wire.specs.Kinds.{file_break}
 use Rattle.obf_wire.specs.Varint.{varint_at}
 use Rattle.obf_wire.specs.Fields.{Window, IsWindow, field_at, behind}
-use Rattle.file_grammar.specs.Tables.{group_size, next_keys, may_end, content_of}
+use Rattle.file_grammar.specs.Tables.{group_size, version_number, next_keys, may_end, content_of}
 use Rattle.file_grammar.specs.Messages.{Fields, ends, has_number, has_bytes, has_numbers, has_message, IsMessage}
 use Rattle.file_grammar.specs.declared.parts.Part.{Part}
 use Rattle.file_grammar.specs.declared.parts.Group.{Group}
@@ -57,7 +57,7 @@ groups_at group w = numbers_at w >>= in_groups group w
 abbrev pub filled : (Part → Window → Result Fields FileBreak) → List ℕ → Field → Option Content → Result (Fields → Fields) FileBreak
 filled read all f None = breaks f.at kinds.BadKey
 filled read all f (Some Number) = Ok (has_number f.at f.key f.value)
-filled read all f (Some Version) = if f.value == 1 then Ok (has_number f.at f.key f.value) else breaks f.at kinds.BadVersion
+filled read all f (Some (Version version)) = if f.value == version_number version then Ok (has_number f.at f.key f.value) else breaks f.at kinds.BadVersion
 filled read all f (Some Bytes) = Ok (has_bytes f.at f.key (slice_range all f.from f.to))
 filled read all f (Some (Numbers group)) = groups_at group (payload_of all f) >>= λ ns. Ok (has_numbers f.at f.key ns)
 filled read all f (Some (Message part)) = read part (payload_of all f) >>= λ inner. Ok (has_message f.at f.key inner)

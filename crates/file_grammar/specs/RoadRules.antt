@@ -1,5 +1,5 @@
 -- What has to hold of roads and turn restrictions, and the records that they stand for.
-use Rattle.std.specs.Prelude.{ℕ, zero, suc, List, [], ◌∷◌, ◌++◌, flat_map, map, length, Bool, true, false, ◌&&◌, nat_le, ◌==◌, Option, slice_get, ℤ, pos, ◌+ℤ◌}
+use Rattle.std.specs.Prelude.{ℕ, zero, suc, List, [], ◌∷◌, ◌++◌, map, length, Bool, true, false, ◌&&◌, nat_le, ◌==◌, Option, slice_get, ℤ, pos, ◌+ℤ◌}
 use Rattle.std.specs.List.{list_all}
 use Rattle.std.specs.Option.{option_map_or}
 use Rattle.live_model.specs.declared.directions.Dir.{Dir}
@@ -17,6 +17,7 @@ use Rattle.file_grammar.specs.Messages.{Fields, has_number, has_numbers, has_mes
 use Rattle.file_grammar.specs.Facts.{Fact, fact}
 use Rattle.file_grammar.specs.Sections.{Placed, placed, Entry, Block, Section, object_of, section_in, text_of}
 use Rattle.file_grammar.specs.BoxRules.{Beside, Boxing, follows, is_marked, is_on_grid, is_ordinal, is_way, section_facts}
+use Rattle.file_grammar.specs.Listed.{records_in}
 use Rattle.file_grammar.specs.RecordRules.{is_object_number, is_one_location, is_relation, only_point, ordinals_rise}
 use Rattle.file_grammar.specs.MapRules.{point_from}
 
@@ -190,8 +191,8 @@ routing_facts beside routing = section_facts road_boxing beside routing.roads ++
 
 -- the roads, in the order of the file
 abbrev pub roads_in : Section → List RoadRec
-roads_in section = flat_map (λ block. map (road_read block) block.entries) section.blocks
+roads_in section = records_in road_read section
 
 -- the restrictions, in the order of the file
 abbrev pub bans_in : Section → List BanRec
-bans_in section = flat_map (λ block. map (ban_read block) block.entries) section.blocks
+bans_in section = records_in ban_read section

@@ -5,7 +5,7 @@ use Rattle.file_grammar.specs.declared.parts.Boxed.TheVariants.{Map, Poi, Road, 
 use Rattle.file_grammar.specs.declared.parts.Version.{Version}
 use Rattle.file_grammar.specs.declared.parts.Version.TheVariants.{One, Two}
 use Rattle.file_grammar.specs.declared.parts.Part.{Part}
-use Rattle.file_grammar.specs.declared.parts.Part.TheVariants.{File, Head, Boxes, Tree, Node, Block, Texts, Record, NoAddresses, NoRoads, NoBoxes, Nothing, Marks, Pois, Group, Addresses, Keyed, KeyEntry, KeyedBlock, Address, Routing}
+use Rattle.file_grammar.specs.declared.parts.Part.TheVariants.{File, Head, Boxes, Tree, Node, Block, Texts, Record, Marks, Pois, Group, Addresses, Keyed, KeyEntry, KeyedBlock, Address, Routing}
 use Rattle.file_grammar.specs.declared.parts.Group.TheVariants.{Single, Pair, Triple}
 use Rattle.file_grammar.specs.declared.parts.Content.{Content}
 use Rattle.file_grammar.specs.declared.parts.Content.TheVariants.{Number, Version as VersionField, Bytes, Numbers, Message}
@@ -60,14 +60,14 @@ address_table One = first_address
 address_table Two = first_address ++ short 7 Bytes ∷ []
 
 -- the whole file
-abbrev pub file_table : Table
-file_table =
-    record (number 1) { content = VersionField } ∷ short 2 (Message Head) ∷ short 3 Bytes ∷ wide 6 (Message (Boxes Map)) ∷ wide 7 (Message NoAddresses)
-    ∷ wide 8 (Message Nothing) ∷ wide 9 (Message NoRoads) ∷ wide 16 (Message Marks) ∷ number 32 ∷ []
+abbrev pub file_table : Version → Table
+file_table version =
+    record (number 1) { content = VersionField version } ∷ short 2 (Message Head) ∷ short 3 Bytes ∷ wide 6 (Message (Boxes Map))
+    ∷ wide 7 (Message (Addresses version)) ∷ wide 8 (Message Pois) ∷ wide 9 (Message Routing) ∷ wide 16 (Message Marks) ∷ number 32 ∷ []
 
 -- A message is of one of its tables. The depth of the root is 1, and of a node at most 24.
 abbrev pub stated : Part → List Table
-stated File = file_table ∷ []
+stated (File version) = file_table version ∷ []
 stated Head = (number 1 ∷ number 2 ∷ number 3 ∷ []) ∷ []
 stated (Boxes class) = (wide 1 (Message Tree) ∷ any (wide 2 (Message (Block class))) ∷ []) ∷ []
 stated Tree = [] ∷ node_tables 23
@@ -75,10 +75,6 @@ stated (Node levels) = node_tables levels
 stated (Block class) = (wide 1 (Message Texts) ∷ any (short 2 (Message (Record class))) ∷ []) ∷ []
 stated Texts = (any (short 1 Bytes) ∷ []) ∷ []
 stated (Record class) = record_table class ∷ []
-stated NoAddresses = (wide 1 (Message Nothing) ∷ wide 2 (Message Nothing) ∷ []) ∷ []
-stated NoRoads = (wide 1 (Message NoBoxes) ∷ wide 2 (Message NoBoxes) ∷ []) ∷ []
-stated NoBoxes = (wide 1 (Message Nothing) ∷ []) ∷ []
-stated Nothing = [] ∷ []
 stated Marks = (short 1 (Numbers Single) ∷ []) ∷ []
 stated Pois = (any (wide 1 (Message Group)) ∷ []) ∷ []
 stated Group = (short 1 Bytes ∷ wide 2 (Message (Boxes Poi)) ∷ []) ∷ []

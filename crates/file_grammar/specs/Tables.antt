@@ -6,21 +6,27 @@ use Rattle.std.specs.Ordering.{nat_cmp}
 use Rattle.ordered_lists.specs.Ordered.{put_all}
 use Rattle.obf_wire.specs.Fields.{has_wire_type}
 use Rattle.file_grammar.specs.declared.parts.Boxed.TheVariants as classes
+use Rattle.file_grammar.specs.declared.parts.Version.{Version}
 use Rattle.file_grammar.specs.declared.parts.Version.TheVariants.{One, Two}
 use Rattle.file_grammar.specs.declared.parts.Part.{Part}
-use Rattle.file_grammar.specs.declared.parts.Part.TheVariants.{File, Head, Boxes, Tree, Node, Block, Texts, Record, NoAddresses, NoRoads, NoBoxes, Nothing, Marks, Pois, Group, Addresses, Keyed, KeyEntry, KeyedBlock, Address, Routing}
+use Rattle.file_grammar.specs.declared.parts.Part.TheVariants.{File, Head, Boxes, Tree, Node, Block, Texts, Record, Marks, Pois, Group, Addresses, Keyed, KeyEntry, KeyedBlock, Address, Routing}
 use Rattle.file_grammar.specs.declared.parts.Group.{Group as GroupOf}
 use Rattle.file_grammar.specs.declared.parts.Group.TheVariants.{Single, Pair, Triple}
 use Rattle.file_grammar.specs.declared.parts.Content.{Content}
-use Rattle.file_grammar.specs.declared.parts.Content.TheVariants.{Message}
+use Rattle.file_grammar.specs.declared.parts.Content.TheVariants.{Version as VersionField, Message}
 use Rattle.file_grammar.specs.declared.rows.Row.{Row}
-use Rattle.file_grammar.specs.declared.rows.TheConstants.{FILE, HEAD, BOXES, LEAF, NODE, BLOCK, TEXTS, MAP_RECORD, POI_RECORD, ROAD_RECORD, RESTRICTION_RECORD, NO_ADDRESSES, NO_ROADS, NO_BOXES, MARKS, POIS, GROUP, ADDRESSES, KEYED, KEY_ENTRY, KEYED_BLOCK, ADDRESS, ADDRESS_TWO, ROUTING}
+use Rattle.file_grammar.specs.declared.rows.TheConstants.{FILE, HEAD, BOXES, LEAF, NODE, BLOCK, TEXTS, MAP_RECORD, POI_RECORD, ROAD_RECORD, RESTRICTION_RECORD, MARKS, POIS, GROUP, ADDRESSES, KEYED, KEY_ENTRY, KEYED_BLOCK, ADDRESS, ADDRESS_TWO, ROUTING}
 
 -- how many numbers a group has
 abbrev pub group_size : GroupOf → ℕ
 group_size Single = 1
 group_size Pair = 2
 group_size Triple = 3
+
+-- the number of a version
+abbrev pub version_number : Version → ℕ
+version_number One = 1
+version_number Two = 2
 
 -- Tables.
 
@@ -31,7 +37,7 @@ Table = List Row
 -- A message is of one of its tables: a node is a leaf, or has others below it where a level is left; a tree may be empty. The
 -- depth of the root is 1, and of a node at most 24.
 abbrev pub tables : Part → List Table
-tables File = FILE ∷ []
+tables (File version) = FILE ∷ []
 tables Head = HEAD ∷ []
 tables (Boxes class) = BOXES ∷ []
 tables Tree = [] ∷ LEAF ∷ NODE ∷ []
@@ -43,10 +49,6 @@ tables (Record classes.Map) = MAP_RECORD ∷ []
 tables (Record classes.Poi) = POI_RECORD ∷ []
 tables (Record classes.Road) = ROAD_RECORD ∷ []
 tables (Record classes.Restriction) = RESTRICTION_RECORD ∷ []
-tables NoAddresses = NO_ADDRESSES ∷ []
-tables NoRoads = NO_ROADS ∷ []
-tables NoBoxes = NO_BOXES ∷ []
-tables Nothing = [] ∷ []
 tables Marks = MARKS ∷ []
 tables Pois = POIS ∷ []
 tables Group = GROUP ∷ []
@@ -67,6 +69,7 @@ IsOneTable part = Unit {0}
 -- Records, blocks and addresses are of the class or the version of the message that holds them, and a node is a level below its
 -- own.
 abbrev pub own_part : Part → Part → Part
+own_part (File version) (Addresses other) = Addresses version
 own_part (Boxes class) (Block other) = Block class
 own_part (Block class) (Record other) = Record class
 own_part Tree (Node other) = Node 22
@@ -76,8 +79,14 @@ own_part (Keyed version) (KeyedBlock other) = KeyedBlock version
 own_part (KeyedBlock version) (Address other) = Address version
 own_part part inner = inner
 
+-- the version of a file is its own
+abbrev pub own_version : Part → Version → Version
+own_version (File version) other = version
+own_version part version = version
+
 -- what a row holds in a message of this part
 abbrev pub own : Part → Content → Content
+own part (VersionField version) = VersionField (own_version part version)
 own part (Message inner) = Message (own_part part inner)
 own part content = content
 

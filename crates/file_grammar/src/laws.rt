@@ -29,7 +29,7 @@ pub fn breaks_have_their_causes()
 {}
 
 /// That just a file has no break, and that it has its parts once. Bytes in memory have no break exactly where they
-/// are a file with some head, rules, marks and records, and they are one with no others. Those of good form always
+/// are a file of some version with some head, rules, marks and records, and they are one with no others. Those of good form always
 /// have the parts of a file.
 pub fn unbroken_bytes_are_files()
     ensures unbroken { FileLaw }

@@ -1,7 +1,8 @@
 //! The messages of a map file.
 
 ghost use Rattle.std.specs.Prelude.{◌≡◌};
-ghost use Rattle.file_grammar.specs.Tables.{group_size};
+ghost use Rattle.file_grammar.specs.Files.{version_of};
+ghost use Rattle.file_grammar.specs.Tables.{group_size, version_number};
 
 /// A class of records that stand in blocks under a tree of boxes.
 #[derive(Clone, Copy, Debug, PartialEq, Eq)]
@@ -19,11 +20,36 @@ pub enum Version {
     Two,
 }
 
+impl Version {
+    /// 1 or 2.
+    pub fn number(self) -> u64
+        ensures { result ≡ version_number self }
+    {
+        match self {
+            Version::One => 1,
+            Version::Two => 2,
+        }
+    }
+
+    /// The version in whose form a file is read: the second where its bytes begin with that version, else the first.
+    pub fn of(bytes: &[u8]) -> Version
+        ensures { result ≡ version_of bytes.now }
+    {
+        match bytes {
+            [VERSION_KEY, 2, ..] => Version::Two,
+            _ => Version::One,
+        }
+    }
+}
+
+/// The key of the version of a file.
+const VERSION_KEY: u8 = 8;
+
 /// A message of a map file, or of one of its parts.
 #[derive(Clone, Copy, Debug, PartialEq, Eq)]
 pub enum Part {
     /// The whole file.
-    File,
+    File(Version),
     /// The level and the stamps.
     Head,
     /// Records of one class: a tree, and the blocks that its leaves name.
@@ -36,14 +62,6 @@ pub enum Part {
     Block(Boxed),
     Texts,
     Record(Boxed),
-    /// The two sections of addresses that are to come, both empty.
-    NoAddresses,
-    /// The two sections of roads and restrictions that are to come, both without a tree and blocks.
-    NoRoads,
-    /// A tree without nodes.
-    NoBoxes,
-    /// No field.
-    Nothing,
     Marks,
     /// Groups of points of interest, one a category.
     Pois,
@@ -87,8 +105,8 @@ impl Group {
 #[derive(Clone, Copy, Debug, PartialEq, Eq)]
 pub enum Content {
     Number,
-    /// The version of the format, which is 1.
-    Version,
+    /// The number of this version of the format.
+    Version(Version),
     Bytes,
     /// A list of numbers in whole groups.
     Numbers(Group),

@@ -51,11 +51,74 @@ const NUMBER_5: Row = Row {
     many: false,
 };
 
+/// A text under 1, and so on.
+const TEXT_1: Row = Row {
+    key: 10,
+    content: Content::Bytes,
+    many: false,
+};
+
+/// A text under 2.
+const TEXT_2: Row = Row {
+    key: 18,
+    content: Content::Bytes,
+    many: false,
+};
+
+/// A text under 3.
+const TEXT_3: Row = Row {
+    key: 26,
+    content: Content::Bytes,
+    many: false,
+};
+
+/// A text under 4.
+const TEXT_4: Row = Row {
+    key: 34,
+    content: Content::Bytes,
+    many: false,
+};
+
+/// A text under 5.
+const TEXT_5: Row = Row {
+    key: 42,
+    content: Content::Bytes,
+    many: false,
+};
+
+/// A text under 7.
+const TEXT_7: Row = Row {
+    key: 58,
+    content: Content::Bytes,
+    many: false,
+};
+
+/// Pairs of numbers under 3.
+const PAIRS_3: Row = Row {
+    key: 26,
+    content: Content::Numbers(Group::Pair),
+    many: false,
+};
+
+/// Pairs of numbers under 5.
+const PAIRS_5: Row = Row {
+    key: 42,
+    content: Content::Numbers(Group::Pair),
+    many: false,
+};
+
+/// Pairs of numbers under 6.
+const PAIRS_6: Row = Row {
+    key: 50,
+    content: Content::Numbers(Group::Pair),
+    many: false,
+};
+
 /// The whole file.
 pub static FILE: [Row; 9] = [
     Row {
         key: 8,
-        content: Content::Version,
+        content: Content::Version(Version::One),
         many: false,
     },
     Row {
@@ -63,11 +126,7 @@ pub static FILE: [Row; 9] = [
         content: Content::Message(Part::Head),
         many: false,
     },
-    Row {
-        key: 26,
-        content: Content::Bytes,
-        many: false,
-    },
+    TEXT_3,
     Row {
         key: 54,
         content: Content::Message(Part::Boxes(Boxed::Map)),
@@ -75,17 +134,17 @@ pub static FILE: [Row; 9] = [
     },
     Row {
         key: 62,
-        content: Content::Message(Part::NoAddresses),
+        content: Content::Message(Part::Addresses(Version::One)),
         many: false,
     },
     Row {
         key: 70,
-        content: Content::Message(Part::Nothing),
+        content: Content::Message(Part::Pois),
         many: false,
     },
     Row {
         key: 78,
-        content: Content::Message(Part::NoRoads),
+        content: Content::Message(Part::Routing),
         many: false,
     },
     Row {
@@ -160,28 +219,10 @@ pub static TEXTS: [Row; 1] = [Row {
 }];
 
 /// A map record.
-pub static MAP_RECORD: [Row; 5] = [
-    NUMBER_1,
-    NUMBER_2,
-    NUMBER_3,
-    NUMBER_4,
-    Row {
-        key: 42,
-        content: Content::Numbers(Group::Pair),
-        many: false,
-    },
-];
+pub static MAP_RECORD: [Row; 5] = [NUMBER_1, NUMBER_2, NUMBER_3, NUMBER_4, PAIRS_5];
 
 /// A point of interest.
-pub static POI_RECORD: [Row; 3] = [
-    NUMBER_1,
-    NUMBER_2,
-    Row {
-        key: 26,
-        content: Content::Numbers(Group::Pair),
-        many: false,
-    },
-];
+pub static POI_RECORD: [Row; 3] = [NUMBER_1, NUMBER_2, PAIRS_3];
 
 /// A road.
 pub static ROAD_RECORD: [Row; 5] = [
@@ -198,52 +239,8 @@ pub static ROAD_RECORD: [Row; 5] = [
 
 /// A restriction.
 pub static RESTRICTION_RECORD: [Row; 6] = [
-    NUMBER_1,
-    NUMBER_2,
-    NUMBER_3,
-    NUMBER_4,
-    NUMBER_5,
-    Row {
-        key: 50,
-        content: Content::Numbers(Group::Pair),
-        many: false,
-    },
+    NUMBER_1, NUMBER_2, NUMBER_3, NUMBER_4, NUMBER_5, PAIRS_6,
 ];
-
-/// Two empty messages.
-pub static NO_ADDRESSES: [Row; 2] = [
-    Row {
-        key: 14,
-        content: Content::Message(Part::Nothing),
-        many: false,
-    },
-    Row {
-        key: 22,
-        content: Content::Message(Part::Nothing),
-        many: false,
-    },
-];
-
-/// Two sections without a node.
-pub static NO_ROADS: [Row; 2] = [
-    Row {
-        key: 14,
-        content: Content::Message(Part::NoBoxes),
-        many: false,
-    },
-    Row {
-        key: 22,
-        content: Content::Message(Part::NoBoxes),
-        many: false,
-    },
-];
-
-/// An empty tree.
-pub static NO_BOXES: [Row; 1] = [Row {
-    key: 14,
-    content: Content::Message(Part::Nothing),
-    many: false,
-}];
 
 /// A list of numbers.
 pub static MARKS: [Row; 1] = [Row {
@@ -261,11 +258,7 @@ pub static POIS: [Row; 1] = [Row {
 
 /// A category, and its points of interest.
 pub static GROUP: [Row; 2] = [
-    Row {
-        key: 10,
-        content: Content::Bytes,
-        many: false,
-    },
+    TEXT_1,
     Row {
         key: 22,
         content: Content::Message(Part::Boxes(Boxed::Poi)),
@@ -302,19 +295,7 @@ pub static KEYED: [Row; 2] = [
 ];
 
 /// The first and last key of a block, and its offset.
-pub static KEY_ENTRY: [Row; 3] = [
-    Row {
-        key: 10,
-        content: Content::Bytes,
-        many: false,
-    },
-    Row {
-        key: 18,
-        content: Content::Bytes,
-        many: false,
-    },
-    NUMBER_3,
-];
+pub static KEY_ENTRY: [Row; 3] = [TEXT_1, TEXT_2, NUMBER_3];
 
 /// Any number of addresses.
 pub static KEYED_BLOCK: [Row; 1] = [Row {
@@ -324,61 +305,10 @@ pub static KEYED_BLOCK: [Row; 1] = [Row {
 }];
 
 /// Ordinal, kind, key, name, number and points.
-pub static ADDRESS: [Row; 6] = [
-    NUMBER_1,
-    NUMBER_2,
-    Row {
-        key: 26,
-        content: Content::Bytes,
-        many: false,
-    },
-    Row {
-        key: 34,
-        content: Content::Bytes,
-        many: false,
-    },
-    Row {
-        key: 42,
-        content: Content::Bytes,
-        many: false,
-    },
-    Row {
-        key: 50,
-        content: Content::Numbers(Group::Pair),
-        many: false,
-    },
-];
+pub static ADDRESS: [Row; 6] = [NUMBER_1, NUMBER_2, TEXT_3, TEXT_4, TEXT_5, PAIRS_6];
 
 /// The same, and a language.
-pub static ADDRESS_TWO: [Row; 7] = [
-    NUMBER_1,
-    NUMBER_2,
-    Row {
-        key: 26,
-        content: Content::Bytes,
-        many: false,
-    },
-    Row {
-        key: 34,
-        content: Content::Bytes,
-        many: false,
-    },
-    Row {
-        key: 42,
-        content: Content::Bytes,
-        many: false,
-    },
-    Row {
-        key: 50,
-        content: Content::Numbers(Group::Pair),
-        many: false,
-    },
-    Row {
-        key: 58,
-        content: Content::Bytes,
-        many: false,
-    },
-];
+pub static ADDRESS_TWO: [Row; 7] = [NUMBER_1, NUMBER_2, TEXT_3, TEXT_4, TEXT_5, PAIRS_6, TEXT_7];
 
 /// Roads, and restrictions.
 pub static ROUTING: [Row; 2] = [
@@ -399,7 +329,7 @@ pub(crate) fn table_of(part: Part) -> &'static [Row]
     ensures { IsOneTable part → tables part ≡ result.now ∷ [] }
 {
     match part {
-        Part::File => &FILE,
+        Part::File(_) => &FILE,
         Part::Head => &HEAD,
         Part::Boxes(_) => &BOXES,
         Part::Tree => &LEAF,
@@ -410,10 +340,6 @@ pub(crate) fn table_of(part: Part) -> &'static [Row]
         Part::Record(Boxed::Poi) => &POI_RECORD,
         Part::Record(Boxed::Road) => &ROAD_RECORD,
         Part::Record(Boxed::Restriction) => &RESTRICTION_RECORD,
-        Part::NoAddresses => &NO_ADDRESSES,
-        Part::NoRoads => &NO_ROADS,
-        Part::NoBoxes => &NO_BOXES,
-        Part::Nothing => &[],
         Part::Marks => &MARKS,
         Part::Pois => &POIS,
         Part::Group => &GROUP,

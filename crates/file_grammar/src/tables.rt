@@ -4,11 +4,11 @@ ghost use Rattle.std.specs.Prelude.{◌≡◌, ◌≤◌, ◌==◌, ◌∷◌, �
 ghost use Rattle.std.specs.List.{list_all};
 ghost use Rattle.std.specs.Option.{option_map};
 ghost use Rattle.obf_wire.specs.Fields.{are_keys, has_wire_type};
-ghost use Rattle.file_grammar.specs.Tables.{are_rows, content_of, ends_of, keys_of, left_at, may_end, next_in, next_keys, own, own_part, rows_behind};
+ghost use Rattle.file_grammar.specs.Tables.{are_rows, content_of, ends_of, keys_of, left_at, may_end, next_in, next_keys, own, own_part, own_version, rows_behind};
 ghost use Rattle.file_grammar.specs.StatedTables.{TablesLaw};
 ghost use Rattle.file_grammar.specs.declared.rows.TheConstants.{LEAF, NODE};
 
-use crate::parts::{Content, Part};
+use crate::parts::{Content, Part, Version};
 use crate::rows::{LEAF, Row, table_of};
 
 /// The keys of the fields that may come at a place of a message, of which there are at most two, and whether the message may
@@ -229,8 +229,19 @@ fn own_content(part: Part, content: Option<Content>) -> Option<Content>
     ensures { result ≡ option_map (own part) content }
 {
     match content {
+        Some(Content::Version(version)) => Some(Content::Version(own_version(part, version))),
         Some(Content::Message(inner)) => Some(Content::Message(own_part(part, inner))),
         _ => content,
+    }
+}
+
+/// The version that a row names, or that of the file that has the row.
+fn own_version(part: Part, version: Version) -> Version
+    ensures { result ≡ own_version part version }
+{
+    match part {
+        Part::File(own) => own,
+        _ => version,
     }
 }
 
@@ -239,6 +250,7 @@ fn own_part(part: Part, inner: Part) -> Part
     ensures { result ≡ own_part part inner }
 {
     match (part, inner) {
+        (Part::File(version), Part::Addresses(_)) => Part::Addresses(version),
         (Part::Boxes(class), Part::Block(_)) => Part::Block(class),
         (Part::Block(class), Part::Record(_)) => Part::Record(class),
         (Part::Tree, Part::Node(_)) => Part::Node(22),

@@ -5,12 +5,12 @@ ghost use Rattle.std.specs.Option.{option_or};
 ghost use Rattle.obf_wire.specs.Fields.{IsWindow, behind, part_of};
 ghost use Rattle.obf_wire.specs.Windows.{range_of};
 ghost use Rattle.obf_wire.specs.declared.file.FileKind.TheVariants.{BadVersion};
-ghost use Rattle.file_grammar.specs.Tables.{content_of};
+ghost use Rattle.file_grammar.specs.Tables.{content_of, version_number};
 ghost use Rattle.file_grammar.specs.Messages.{Fields};
 ghost use Rattle.file_grammar.specs.Walks.{ComesNext, CountsNone, CountsOn, IsInside, IsTurn, break_from};
 ghost use Rattle.file_grammar.specs.Readings.{break_in, filled, groups_at, measured, message_at, message_from, numbers_at};
 
-use crate::parts::{Content, Group, Part};
+use crate::parts::{Content, Group, Part, Version};
 use crate::tables::{content, next_fields};
 use obf_wire::{Cursor, Field, FileBreak, FileKind, Window, WireBreak, read_varint};
 
@@ -80,17 +80,18 @@ fn inside(part: Part, bytes: &[u8], field: &Field) -> Result<(), FileBreak>
             kind: FileKind::BadKey,
         }),
         Some(Content::Number) => Ok(()),
-        Some(Content::Version) => version(field),
+        Some(Content::Version(version)) => has_version(version, field),
         Some(Content::Bytes) => Ok(()),
         Some(Content::Numbers(group)) => numbers(group, Window::new(bytes, field.from, field.to)),
         Some(Content::Message(inner)) => form(inner, Window::new(bytes, field.from, field.to)),
     }
 }
 
-fn version(field: &Field) -> Result<(), FileBreak>
-    ensures { break_in result ≡ (if field.now.value == 1 then None else Some (record { at = field.now.at; kind = BadVersion })) }
+// Whether the field holds the number of the version.
+fn has_version(version: Version, field: &Field) -> Result<(), FileBreak>
+    ensures { break_in result ≡ (if field.now.value == version_number version then None else Some (record { at = field.now.at; kind = BadVersion })) }
 {
-    if field.value == 1 {
+    if field.value == version.number() {
         Ok(())
     } else {
         Err(FileBreak {

@@ -16,15 +16,15 @@ use Rattle.live_model.specs.declared.ids.Kind.TheVariants.{Node}
 use Rattle.live_model.specs.declared.shapes.Shape.TheVariants.{Point as PointShape}
 use Rattle.live_model.specs.declared.records.Rec.{Rec}
 use Rattle.live_model.specs.declared.records.Rec.TheVariants.{Map}
-use Rattle.live_model.specs.Maps.{in_order}
 use Rattle.live_model.specs.Rules.{shape_of, admitted_of, zoom_of, poi_of, named_class, rule_fields, rule_of, rule_row, rule_line}
+use Rattle.file_grammar.specs.declared.parts.Version.TheVariants.{One}
 use Rattle.file_grammar.specs.declared.parts.Part.TheVariants.{File}
 use Rattle.file_grammar.specs.Messages.{Fields, ends, IsMessage}
 use Rattle.file_grammar.specs.Readings.{IsInMemory, message_from, message_at}
-use Rattle.file_grammar.specs.Sections.{section_in}
 use Rattle.file_grammar.specs.BoxRules.{section_facts}
-use Rattle.file_grammar.specs.MapRules.{map_records_in}
-use Rattle.file_grammar.specs.Files.{HeadNumbers, FileParts, file_break, file_facts, file_in, is_hour, is_head, whole, IsFile}
+use Rattle.file_grammar.specs.PoiRules.{groups_facts}
+use Rattle.file_grammar.specs.AddressRules.{keyed_facts}
+use Rattle.file_grammar.specs.Files.{HeadNumbers, FileParts, file_break, file_facts, file_in, file_records, is_hour, is_head, whole, IsFile}
 use Rattle.file_grammar.specs.Facts.{first_failing}
 use Rattle.file_grammar.proofs.Earlier.{one_first_break_law}
 use Rattle.file_grammar.proofs.ReadIsSpelled.{read_is_spelled}
@@ -41,8 +41,12 @@ behind marks =
     (62 ∷ wide 18) ++ (14 ∷ wide 0) ++ (22 ∷ wide 0) ++ (70 ∷ wide 0) ++ (78 ∷ wide 36) ++ (14 ∷ wide 9) ++ (14 ∷ wide 0) ++ (22 ∷ wide 9) ++ (14 ∷ wide 0)
     ++ (134 ∷ 1 ∷ wide (length marks)) ++ marks
 
+-- the base of this version, which says this version again at its end
+abbrev base_with : ℕ → ℕ → List ℕ
+base_with version again = (8 ∷ version ∷ 18 ∷ 6 ∷ 8 ∷ 0 ∷ 16 ∷ 0 ∷ 24 ∷ 0 ∷ 26 ∷ 0 ∷ []) ++ (54 ∷ wide 9) ++ (14 ∷ wide 0) ++ behind (10 ∷ 0 ∷ []) ++ (128 ∷ 2 ∷ again ∷ [])
+
 abbrev base : List ℕ
-base = (8 ∷ 1 ∷ 18 ∷ 6 ∷ 8 ∷ 0 ∷ 16 ∷ 0 ∷ 24 ∷ 0 ∷ 26 ∷ 0 ∷ []) ++ (54 ∷ wide 9) ++ (14 ∷ wide 0) ++ behind (10 ∷ 0 ∷ []) ++ (128 ∷ 2 ∷ 1 ∷ [])
+base = base_with 1 1
 
 abbrev broken : ℕ → FileKind → Option FileBreak
 broken at kind = Some (record { at = at; kind = kind })
@@ -51,28 +55,71 @@ abbrev with_byte : ℕ → ℕ → List ℕ
 with_byte place value = take place base ++ value ∷ drop (place + 1) base
 
 base_is_good : file_break base ≡ None
-unfolding message_from field_at varint_in file_facts section_facts lines_from
+unfolding message_from field_at varint_in file_facts section_facts keyed_facts groups_facts lines_from
 base_is_good = refl
 
-other_version_again : file_break (with_byte 125 2) ≡ broken 123 kinds.BadConfirm
-unfolding message_from field_at varint_in file_facts section_facts lines_from
-other_version_again = refl
+-- Both versions, and no other. Each says itself again at its end.
+
+bytes_of_second : length (base_with 2 2) ≡ 126
+bytes_of_second = refl
+
+second_is_good : file_break (base_with 2 2) ≡ None
+unfolding message_from field_at varint_in file_facts section_facts keyed_facts groups_facts lines_from
+second_is_good = refl
+
+first_again_in_second : file_break (base_with 2 1) ≡ broken 123 kinds.BadConfirm
+unfolding message_from field_at varint_in file_facts section_facts keyed_facts groups_facts lines_from
+first_again_in_second = refl
+
+second_again_in_first : file_break (base_with 1 2) ≡ broken 123 kinds.BadConfirm
+unfolding message_from field_at varint_in file_facts section_facts keyed_facts groups_facts lines_from
+second_again_in_first = refl
+
+third_version : file_break (base_with 3 3) ≡ broken 0 kinds.BadVersion
+unfolding message_from field_at varint_in file_facts section_facts keyed_facts groups_facts lines_from
+third_version = refl
+
+no_version : file_break (base_with 0 0) ≡ broken 0 kinds.BadVersion
+unfolding message_from field_at varint_in file_facts section_facts keyed_facts groups_facts lines_from
+no_version = refl
+
+-- The base of `n1 Tplace=town x0 y0` with no rule for it: one address, a town `a`, in the form of this version, with these bytes behind
+-- its points.
+
+abbrev with_address : ℕ → List ℕ → List ℕ
+with_address version lang =
+    (8 ∷ version ∷ 18 ∷ 6 ∷ 8 ∷ 0 ∷ 16 ∷ 0 ∷ 24 ∷ 0 ∷ 26 ∷ 0 ∷ []) ++ (54 ∷ wide 9) ++ (14 ∷ wide 0)
+    ++ (62 ∷ wide (69 + length lang)) ++ (14 ∷ wide (51 + length lang)) ++ (10 ∷ 8 ∷ 10 ∷ 1 ∷ 97 ∷ 18 ∷ 1 ∷ 97 ∷ 24 ∷ 0 ∷ []) ++ (22 ∷ wide (32 + length lang))
+    ++ (10 ∷ (30 + length lang) ∷ 8 ∷ 129 ∷ 128 ∷ 128 ∷ 128 ∷ 128 ∷ 128 ∷ 64 ∷ 16 ∷ 0 ∷ 26 ∷ 1 ∷ 97 ∷ 34 ∷ 1 ∷ 97 ∷ 42 ∷ 0 ∷ 50 ∷ 10 ∷ 128 ∷ 200 ∷ 206 ∷ 180 ∷ 13 ∷ 128
+    ∷ 164 ∷ 167 ∷ 218 ∷ 6 ∷ []) ++ lang ++ (22 ∷ wide 0) ++ drop 57 (base_with version version)
+
+address_of_first : file_break (with_address 1 []) ≡ None
+unfolding message_from field_at varint_in file_facts section_facts keyed_facts groups_facts lines_from is_utf8 chars encode
+address_of_first = refl
+
+language_in_first : file_break (with_address 1 (58 ∷ 0 ∷ [])) ≡ broken 99 kinds.BadKey
+unfolding message_from field_at varint_in
+language_in_first = refl
+
+address_of_second : file_break (with_address 2 (58 ∷ 0 ∷ [])) ≡ None
+unfolding message_from field_at varint_in file_facts section_facts keyed_facts groups_facts lines_from is_utf8 chars encode
+address_of_second = refl
+
+no_language_in_second : file_break (with_address 2 []) ≡ broken 99 kinds.Short
+unfolding message_from field_at varint_in
+no_language_in_second = refl
 
 no_level : file_break (with_byte 5 4) ≡ broken 2 kinds.BadHead
-unfolding message_from field_at varint_in file_facts section_facts lines_from
+unfolding message_from field_at varint_in file_facts section_facts keyed_facts groups_facts lines_from
 no_level = refl
 
 hour_without_stamps : file_break (with_byte 5 1) ≡ broken 2 kinds.BadHead
-unfolding message_from field_at varint_in file_facts section_facts lines_from
+unfolding message_from field_at varint_in file_facts section_facts keyed_facts groups_facts lines_from
 hour_without_stamps = refl
 
 base_with_a_mark : file_break (take 111 base ++ (134 ∷ 1 ∷ wide 3) ++ 10 ∷ 1 ∷ 5 ∷ 128 ∷ 2 ∷ 1 ∷ []) ≡ broken 121 kinds.BadMark
-unfolding message_from field_at varint_in file_facts section_facts lines_from
+unfolding message_from field_at varint_in file_facts section_facts keyed_facts groups_facts lines_from
 base_with_a_mark = refl
-
-other_version : file_break (take 1 base ++ 2 ∷ take 123 (drop 2 base) ++ 2 ∷ []) ≡ broken 0 kinds.BadVersion
-unfolding message_from field_at varint_in file_facts section_facts lines_from
-other_version = refl
 
 leap_day : is_hour 2024022923 ≡ true
 leap_day = refl
@@ -105,16 +152,16 @@ rules_of_drawn : length drawn ≡ 16
 rules_of_drawn = refl
 
 one_node_is_good : file_break (one_node drawn (128 ∷ 164 ∷ 167 ∷ 218 ∷ 6 ∷ [])) ≡ None
-unfolding message_from field_at varint_in file_facts section_facts lines_from fields_from number_of character_of unescaped text_of escaped shape_of admitted_of zoom_of poi_of named_class rule_fields rule_of rule_row rule_line digits is_utf8 chars encode
+unfolding message_from field_at varint_in file_facts section_facts keyed_facts groups_facts lines_from fields_from number_of character_of unescaped text_of escaped shape_of admitted_of zoom_of poi_of named_class rule_fields rule_of rule_row rule_line digits is_utf8 chars encode
 one_node_is_good = refl
 
 right_edge_lower : file_break (one_node drawn (255 ∷ 163 ∷ 167 ∷ 218 ∷ 6 ∷ [])) ≡ broken 46 kinds.BadBox
-unfolding message_from field_at varint_in file_facts section_facts lines_from fields_from number_of character_of unescaped text_of escaped shape_of admitted_of zoom_of poi_of named_class rule_fields rule_of rule_row rule_line digits is_utf8 chars encode
+unfolding message_from field_at varint_in file_facts section_facts keyed_facts groups_facts lines_from fields_from number_of character_of unescaped text_of escaped shape_of admitted_of zoom_of poi_of named_class rule_fields rule_of rule_row rule_line digits is_utf8 chars encode
 right_edge_lower = refl
 
 -- a zoom with a leading zero is not canonical; that comes before what fails behind it
 not_canonical : file_break (one_node (codes "point a b 00 map" ++ 10 ∷ []) (255 ∷ 163 ∷ 167 ∷ 218 ∷ 6 ∷ [])) ≡ broken 10 kinds.BadRules
-unfolding message_from field_at varint_in file_facts section_facts lines_from fields_from number_of character_of unescaped text_of escaped shape_of admitted_of zoom_of poi_of named_class rule_fields rule_of rule_row rule_line digits is_utf8 chars encode
+unfolding message_from field_at varint_in file_facts section_facts keyed_facts groups_facts lines_from fields_from number_of character_of unescaped text_of escaped shape_of admitted_of zoom_of poi_of named_class rule_fields rule_of rule_row rule_line digits is_utf8 chars encode
 not_canonical = refl
 
 -- A file above a base, under that rule: at this level, with these hours, with this map section, with these marks.
@@ -152,54 +199,54 @@ abbrev of_none : List ℕ
 of_none = 129 ∷ 128 ∷ 128 ∷ 128 ∷ 128 ∷ 128 ∷ 128 ∷ 1 ∷ []
 
 hour_is_good : file_break (above 1 new_year new_year of_n1) ≡ None
-unfolding message_from field_at varint_in file_facts section_facts lines_from fields_from number_of character_of unescaped text_of escaped shape_of admitted_of zoom_of poi_of named_class rule_fields rule_of rule_row rule_line digits is_utf8 chars encode
+unfolding message_from field_at varint_in file_facts section_facts keyed_facts groups_facts lines_from fields_from number_of character_of unescaped text_of escaped shape_of admitted_of zoom_of poi_of named_class rule_fields rule_of rule_row rule_line digits is_utf8 chars encode
 hour_is_good = refl
 
 record_without_mark : file_break (above 1 new_year new_year of_n2) ≡ broken 100 kinds.BadMark
-unfolding message_from field_at varint_in file_facts section_facts lines_from fields_from number_of character_of unescaped text_of escaped shape_of admitted_of zoom_of poi_of named_class rule_fields rule_of rule_row rule_line digits is_utf8 chars encode
+unfolding message_from field_at varint_in file_facts section_facts keyed_facts groups_facts lines_from fields_from number_of character_of unescaped text_of escaped shape_of admitted_of zoom_of poi_of named_class rule_fields rule_of rule_row rule_line digits is_utf8 chars encode
 record_without_mark = refl
 
 no_marks : file_break (above 1 new_year new_year []) ≡ broken 100 kinds.BadMark
-unfolding message_from field_at varint_in file_facts section_facts lines_from fields_from number_of character_of unescaped text_of escaped shape_of admitted_of zoom_of poi_of named_class rule_fields rule_of rule_row rule_line digits is_utf8 chars encode
+unfolding message_from field_at varint_in file_facts section_facts keyed_facts groups_facts lines_from fields_from number_of character_of unescaped text_of escaped shape_of admitted_of zoom_of poi_of named_class rule_fields rule_of rule_row rule_line digits is_utf8 chars encode
 no_marks = refl
 
 -- the record has no mark, and is not asked for one
 marks_that_stand_still : file_break (above 1 new_year new_year (of_n2 ++ 0 ∷ [])) ≡ broken 217 kinds.BadOrder
-unfolding message_from field_at varint_in file_facts section_facts lines_from fields_from number_of character_of unescaped text_of escaped shape_of admitted_of zoom_of poi_of named_class rule_fields rule_of rule_row rule_line digits is_utf8 chars encode
+unfolding message_from field_at varint_in file_facts section_facts keyed_facts groups_facts lines_from fields_from number_of character_of unescaped text_of escaped shape_of admitted_of zoom_of poi_of named_class rule_fields rule_of rule_row rule_line digits is_utf8 chars encode
 marks_that_stand_still = refl
 
 mark_of_no_object : file_break (above 1 new_year new_year of_none) ≡ broken 217 kinds.BadId
-unfolding message_from field_at varint_in file_facts section_facts lines_from fields_from number_of character_of unescaped text_of escaped shape_of admitted_of zoom_of poi_of named_class rule_fields rule_of rule_row rule_line digits is_utf8 chars encode
+unfolding message_from field_at varint_in file_facts section_facts keyed_facts groups_facts lines_from fields_from number_of character_of unescaped text_of escaped shape_of admitted_of zoom_of poi_of named_class rule_fields rule_of rule_row rule_line digits is_utf8 chars encode
 mark_of_no_object = refl
 
 -- the first mark is that of the node -2^48, and the step behind it leads to n1
 two_marks : file_break (above 1 new_year new_year (0 ∷ of_n1)) ≡ None
-unfolding message_from field_at varint_in file_facts section_facts lines_from fields_from number_of character_of unescaped text_of escaped shape_of admitted_of zoom_of poi_of named_class rule_fields rule_of rule_row rule_line digits is_utf8 chars encode
+unfolding message_from field_at varint_in file_facts section_facts keyed_facts groups_facts lines_from fields_from number_of character_of unescaped text_of escaped shape_of admitted_of zoom_of poi_of named_class rule_fields rule_of rule_row rule_line digits is_utf8 chars encode
 two_marks = refl
 
 day_is_good : file_break (above 2 new_year late_evening of_n1) ≡ None
-unfolding message_from field_at varint_in file_facts section_facts lines_from fields_from number_of character_of unescaped text_of escaped shape_of admitted_of zoom_of poi_of named_class rule_fields rule_of rule_row rule_line digits is_utf8 chars encode
+unfolding message_from field_at varint_in file_facts section_facts keyed_facts groups_facts lines_from fields_from number_of character_of unescaped text_of escaped shape_of admitted_of zoom_of poi_of named_class rule_fields rule_of rule_row rule_line digits is_utf8 chars encode
 day_is_good = refl
 
 -- that the record has no mark is told at a later place
 day_over_two_days : file_break (above 2 late_evening next_day of_n2) ≡ broken 2 kinds.BadHead
-unfolding message_from field_at varint_in file_facts section_facts lines_from fields_from number_of character_of unescaped text_of escaped shape_of admitted_of zoom_of poi_of named_class rule_fields rule_of rule_row rule_line digits is_utf8 chars encode
+unfolding message_from field_at varint_in file_facts section_facts keyed_facts groups_facts lines_from fields_from number_of character_of unescaped text_of escaped shape_of admitted_of zoom_of poi_of named_class rule_fields rule_of rule_row rule_line digits is_utf8 chars encode
 day_over_two_days = refl
 
 month_of_two_days : file_break (above 3 late_evening next_day of_n1) ≡ None
-unfolding message_from field_at varint_in file_facts section_facts lines_from fields_from number_of character_of unescaped text_of escaped shape_of admitted_of zoom_of poi_of named_class rule_fields rule_of rule_row rule_line digits is_utf8 chars encode
+unfolding message_from field_at varint_in file_facts section_facts keyed_facts groups_facts lines_from fields_from number_of character_of unescaped text_of escaped shape_of admitted_of zoom_of poi_of named_class rule_fields rule_of rule_row rule_line digits is_utf8 chars encode
 month_of_two_days = refl
 
 first_after_last : file_break (above 3 next_day late_evening of_n1) ≡ broken 2 kinds.BadHead
-unfolding message_from field_at varint_in file_facts section_facts lines_from fields_from number_of character_of unescaped text_of escaped shape_of admitted_of zoom_of poi_of named_class rule_fields rule_of rule_row rule_line digits is_utf8 chars encode
+unfolding message_from field_at varint_in file_facts section_facts keyed_facts groups_facts lines_from fields_from number_of character_of unescaped text_of escaped shape_of admitted_of zoom_of poi_of named_class rule_fields rule_of rule_row rule_line digits is_utf8 chars encode
 first_after_last = refl
 
 day_that_is_none : file_break (above 1 no_day no_day of_n1) ≡ broken 2 kinds.BadHead
-unfolding message_from field_at varint_in file_facts section_facts lines_from fields_from number_of character_of unescaped text_of escaped shape_of admitted_of zoom_of poi_of named_class rule_fields rule_of rule_row rule_line digits is_utf8 chars encode
+unfolding message_from field_at varint_in file_facts section_facts keyed_facts groups_facts lines_from fields_from number_of character_of unescaped text_of escaped shape_of admitted_of zoom_of poi_of named_class rule_fields rule_of rule_row rule_line digits is_utf8 chars encode
 day_that_is_none = refl
 
 base_with_hours : file_break (above 0 new_year new_year []) ≡ broken 2 kinds.BadHead
-unfolding message_from field_at varint_in file_facts section_facts lines_from fields_from number_of character_of unescaped text_of escaped shape_of admitted_of zoom_of poi_of named_class rule_fields rule_of rule_row rule_line digits is_utf8 chars encode
+unfolding message_from field_at varint_in file_facts section_facts keyed_facts groups_facts lines_from fields_from number_of character_of unescaped text_of escaped shape_of admitted_of zoom_of poi_of named_class rule_fields rule_of rule_row rule_line digits is_utf8 chars encode
 base_with_hours = refl
 
 hour_of_two_hours : is_head (record { level = 1; first = 2024010100; last = 2024010101 }) ≡ false
@@ -240,81 +287,81 @@ day_0 = refl
 
 -- the line feed of the last of two rules is missing
 no_last_line_feed : file_break (one_node (drawn ++ codes "line c * 12 road") (128 ∷ 164 ∷ 167 ∷ 218 ∷ 6 ∷ [])) ≡ broken 10 kinds.BadRules
-unfolding message_from field_at varint_in file_facts section_facts lines_from fields_from number_of character_of unescaped text_of escaped shape_of admitted_of zoom_of poi_of named_class rule_fields rule_of rule_row rule_line digits is_utf8 chars encode
+unfolding message_from field_at varint_in file_facts section_facts keyed_facts groups_facts lines_from fields_from number_of character_of unescaped text_of escaped shape_of admitted_of zoom_of poi_of named_class rule_fields rule_of rule_row rule_line digits is_utf8 chars encode
 no_last_line_feed = refl
 
 two_rules_are_good : file_break (one_node (drawn ++ codes "line c * 12 road" ++ 10 ∷ []) (128 ∷ 164 ∷ 167 ∷ 218 ∷ 6 ∷ [])) ≡ None
-unfolding message_from field_at varint_in file_facts section_facts lines_from fields_from number_of character_of unescaped text_of escaped shape_of admitted_of zoom_of poi_of named_class rule_fields rule_of rule_row rule_line digits is_utf8 chars encode
+unfolding message_from field_at varint_in file_facts section_facts keyed_facts groups_facts lines_from fields_from number_of character_of unescaped text_of escaped shape_of admitted_of zoom_of poi_of named_class rule_fields rule_of rule_row rule_line digits is_utf8 chars encode
 two_rules_are_good = refl
 
 record_without_rule : file_break (one_node [] (128 ∷ 164 ∷ 167 ∷ 218 ∷ 6 ∷ [])) ≡ broken 84 kinds.BadRef
-unfolding message_from field_at varint_in file_facts section_facts lines_from fields_from number_of character_of unescaped text_of escaped shape_of admitted_of zoom_of poi_of named_class rule_fields rule_of rule_row rule_line digits is_utf8 chars encode
+unfolding message_from field_at varint_in file_facts section_facts keyed_facts groups_facts lines_from fields_from number_of character_of unescaped text_of escaped shape_of admitted_of zoom_of poi_of named_class rule_fields rule_of rule_row rule_line digits is_utf8 chars encode
 record_without_rule = refl
 
 -- Form comes before what has to hold.
 
 no_bytes : file_break [] ≡ broken 0 kinds.Short
-unfolding message_from field_at varint_in file_facts section_facts lines_from
+unfolding message_from field_at varint_in file_facts section_facts keyed_facts groups_facts lines_from
 no_bytes = refl
 
 one_byte_more : file_break (base ++ 0 ∷ []) ≡ broken 126 kinds.BadKey
-unfolding message_from field_at varint_in file_facts section_facts lines_from
+unfolding message_from field_at varint_in file_facts section_facts keyed_facts groups_facts lines_from
 one_byte_more = refl
 
 cut_before_marks : file_break (take 111 base) ≡ broken 111 kinds.Short
-unfolding message_from field_at varint_in file_facts section_facts lines_from
+unfolding message_from field_at varint_in file_facts section_facts keyed_facts groups_facts lines_from
 cut_before_marks = refl
 
 cut_in_key_of_marks : file_break (take 112 base) ≡ broken 111 kinds.Short
-unfolding message_from field_at varint_in file_facts section_facts lines_from
+unfolding message_from field_at varint_in file_facts section_facts keyed_facts groups_facts lines_from
 cut_in_key_of_marks = refl
 
 cut_before_length_of_marks : file_break (take 113 base) ≡ broken 113 kinds.Short
-unfolding message_from field_at varint_in file_facts section_facts lines_from
+unfolding message_from field_at varint_in file_facts section_facts keyed_facts groups_facts lines_from
 cut_before_length_of_marks = refl
 
 cut_in_length_of_marks : file_break (take 120 base) ≡ broken 113 kinds.Short
-unfolding message_from field_at varint_in file_facts section_facts lines_from
+unfolding message_from field_at varint_in file_facts section_facts keyed_facts groups_facts lines_from
 cut_in_length_of_marks = refl
 
 cut_before_list_of_marks : file_break (take 121 base) ≡ broken 111 kinds.OverEnd
-unfolding message_from field_at varint_in file_facts section_facts lines_from
+unfolding message_from field_at varint_in file_facts section_facts keyed_facts groups_facts lines_from
 cut_before_list_of_marks = refl
 
 cut_in_list_of_marks : file_break (take 122 base) ≡ broken 111 kinds.OverEnd
-unfolding message_from field_at varint_in file_facts section_facts lines_from
+unfolding message_from field_at varint_in file_facts section_facts keyed_facts groups_facts lines_from
 cut_in_list_of_marks = refl
 
 cut_behind_marks : file_break (take 123 base) ≡ broken 123 kinds.Short
-unfolding message_from field_at varint_in file_facts section_facts lines_from
+unfolding message_from field_at varint_in file_facts section_facts keyed_facts groups_facts lines_from
 cut_behind_marks = refl
 
 cut_in_key_of_last : file_break (take 124 base) ≡ broken 123 kinds.Short
-unfolding message_from field_at varint_in file_facts section_facts lines_from
+unfolding message_from field_at varint_in file_facts section_facts keyed_facts groups_facts lines_from
 cut_in_key_of_last = refl
 
 cut_before_last : file_break (take 125 base) ≡ broken 125 kinds.Short
-unfolding message_from field_at varint_in file_facts section_facts lines_from
+unfolding message_from field_at varint_in file_facts section_facts keyed_facts groups_facts lines_from
 cut_before_last = refl
 
 overlong_version : file_break (8 ∷ 129 ∷ 0 ∷ drop 2 base) ≡ broken 1 kinds.LongVarint
-unfolding message_from field_at varint_in file_facts section_facts lines_from
+unfolding message_from field_at varint_in file_facts section_facts keyed_facts groups_facts lines_from
 overlong_version = refl
 
 length_past_the_end : file_break (take 13 base ++ 255 ∷ 255 ∷ 255 ∷ 255 ∷ 255 ∷ 255 ∷ 255 ∷ 255 ∷ drop 21 base) ≡ broken 12 kinds.OverEnd
-unfolding message_from field_at varint_in file_facts section_facts lines_from
+unfolding message_from field_at varint_in file_facts section_facts keyed_facts groups_facts lines_from
 length_past_the_end = refl
 
 zeros : file_break (0 ∷ 0 ∷ 0 ∷ []) ≡ broken 0 kinds.BadKey
-unfolding message_from field_at varint_in file_facts section_facts lines_from
+unfolding message_from field_at varint_in file_facts section_facts keyed_facts groups_facts lines_from
 zeros = refl
 
 bad_head_cut : file_break (take 125 (with_byte 5 4)) ≡ broken 125 kinds.Short
-unfolding message_from field_at varint_in file_facts section_facts lines_from
+unfolding message_from field_at varint_in file_facts section_facts keyed_facts groups_facts lines_from
 bad_head_cut = refl
 
 bad_head_and_confirm : file_break (take 125 (with_byte 5 4) ++ 2 ∷ []) ≡ broken 2 kinds.BadHead
-unfolding message_from field_at varint_in file_facts section_facts lines_from
+unfolding message_from field_at varint_in file_facts section_facts keyed_facts groups_facts lines_from
 bad_head_and_confirm = refl
 
 -- The parts: n2 in the first block and n1 in the second, whose leaf is to the east.
@@ -329,11 +376,11 @@ two_leaves =
     ++ (54 ∷ wide 10) ++ (8 ∷ 1 ∷ 16 ∷ 0 ∷ 24 ∷ 1 ∷ 32 ∷ 0 ∷ 40 ∷ 38 ∷ []) ++ one_record of_n2 0 ++ one_record of_n1 2
 
 two_blocks_are_good : file_break (file_above 1 new_year new_year two_leaves (of_n1 ++ 1 ∷ [])) ≡ None
-unfolding message_from field_at varint_in file_facts section_facts lines_from fields_from number_of character_of unescaped text_of escaped shape_of admitted_of zoom_of poi_of named_class rule_fields rule_of rule_row rule_line digits is_utf8 chars encode
+unfolding message_from field_at varint_in file_facts section_facts keyed_facts groups_facts lines_from fields_from number_of character_of unescaped text_of escaped shape_of admitted_of zoom_of poi_of named_class rule_fields rule_of rule_row rule_line digits is_utf8 chars encode
 two_blocks_are_good = refl
 
 second_block_without_mark : file_break (file_above 1 new_year new_year two_leaves of_n2) ≡ broken 158 kinds.BadMark
-unfolding message_from field_at varint_in file_facts section_facts lines_from fields_from number_of character_of unescaped text_of escaped shape_of admitted_of zoom_of poi_of named_class rule_fields rule_of rule_row rule_line digits is_utf8 chars encode
+unfolding message_from field_at varint_in file_facts section_facts keyed_facts groups_facts lines_from fields_from number_of character_of unescaped text_of escaped shape_of admitted_of zoom_of poi_of named_class rule_fields rule_of rule_row rule_line digits is_utf8 chars encode
 second_block_without_mark = refl
 
 abbrev parts_of : Result Fields FileBreak → Option FileParts
@@ -350,10 +397,10 @@ marks_of (Some file) = file.marks.value
 
 abbrev records_of : Option FileParts → List Rec
 records_of None = []
-records_of (Some file) = in_order (map Map (map_records_in (section_in file.map)))
+records_of (Some file) = file_records file
 
 abbrev parts_of_two : Option FileParts
-parts_of_two = parts_of (message_at File (whole (file_above 1 new_year new_year two_leaves (of_n1 ++ 1 ∷ []))))
+parts_of_two = parts_of (message_at (File One) (whole (file_above 1 new_year new_year two_leaves (of_n1 ++ 1 ∷ []))))
 
 abbrev node_at : ℕ → ℕ → Rec
 node_at number x = Map (record { id = record { kind = Node; number = pos number }; rule = 0; shape = PointShape; name = []; points = record { x = x; y = 0 } ∷ [] })
@@ -366,7 +413,7 @@ marks_of_two : marks_of parts_of_two ≡ 281474976710657 ∷ 281474976710658 ∷
 unfolding message_from field_at varint_in
 marks_of_two = refl
 
-three_marks : marks_of (parts_of (message_at File (whole (above 1 new_year new_year (of_n1 ++ 3 ∷ 4 ∷ [])))))
+three_marks : marks_of (parts_of (message_at (File One) (whole (above 1 new_year new_year (of_n1 ++ 3 ∷ 4 ∷ [])))))
     ≡ 281474976710657 ∷ 281474976710660 ∷ 281474976710664 ∷ []
 unfolding message_from field_at varint_in
 three_marks = refl
@@ -390,7 +437,7 @@ fields_of (Err b) = ends
 fields_of (Ok fields) = fields
 
 abbrev or_no_parts : Option FileParts → FileParts
-or_no_parts None = record { head = record { at = 0; value = record { level = 0; first = 0; last = 0 } }; rules = record { at = 0; value = [] }; map = ends; marks = record { at = 0; value = [] }; again = record { at = 0; value = 0 } }
+or_no_parts None = record { version = 0; head = record { at = 0; value = record { level = 0; first = 0; last = 0 } }; rules = record { at = 0; value = [] }; map = ends; addresses = ends; pois = ends; roads = ends; marks = record { at = 0; value = [] }; again = record { at = 0; value = 0 } }
 or_no_parts (Some file) = file
 
 two_in_memory : IsInMemory (whole bytes_of_two)
@@ -400,25 +447,25 @@ two_in_memory = record {
   few = ltb-true (length bytes_of_two) (2 ^ 64) refl;
 }
 
-two_is_read : message_at File (whole bytes_of_two) ≡ Ok (fields_of (message_at File (whole bytes_of_two)))
+two_is_read : message_at (File One) (whole bytes_of_two) ≡ Ok (fields_of (message_at (File One) (whole bytes_of_two)))
 unfolding message_from field_at varint_in
 two_is_read = refl
 
-two_is_message : IsMessage File (whole bytes_of_two) (fields_of (message_at File (whole bytes_of_two)))
+two_is_message : IsMessage (File One) (whole bytes_of_two) (fields_of (message_at (File One) (whole bytes_of_two)))
 two_is_message =
-    let s = read_is_spelled File None (whole bytes_of_two) (fields_of (message_at File (whole bytes_of_two))) two_in_memory two_is_read in
+    let s = read_is_spelled (File One) None (whole bytes_of_two) (fields_of (message_at (File One) (whole bytes_of_two))) two_in_memory two_is_read in
     record { form = s.form; spelled = s.spelled }
 
 none_fails : first_failing (file_facts (or_no_parts parts_of_two)) ≡ None
-unfolding message_from field_at varint_in file_facts section_facts lines_from fields_from number_of character_of unescaped text_of escaped shape_of admitted_of zoom_of poi_of named_class rule_fields rule_of rule_row rule_line digits is_utf8 chars encode
+unfolding message_from field_at varint_in file_facts section_facts keyed_facts groups_facts lines_from fields_from number_of character_of unescaped text_of escaped shape_of admitted_of zoom_of poi_of named_class rule_fields rule_of rule_row rule_line digits is_utf8 chars encode
 none_fails = refl
 
-two_is_file : IsFile bytes_of_two (record { level = 1; first = 2024010100; last = 2024010100 })
+two_is_file : IsFile bytes_of_two One (record { level = 1; first = 2024010100; last = 2024010100 })
     (record { shape = PointShape; key = codes "a"; value = Some (codes "b"); zoom = 0; class = MapClass } ∷ []) (281474976710657 ∷ 281474976710658 ∷ [])
     (node_at 1 1 ∷ node_at 2 0 ∷ [])
-unfolding message_from field_at varint_in file_facts section_facts lines_from fields_from number_of character_of unescaped text_of escaped shape_of admitted_of zoom_of poi_of named_class rule_fields rule_of rule_row rule_line digits is_utf8 chars encode
+unfolding message_from field_at varint_in file_facts section_facts keyed_facts groups_facts lines_from fields_from number_of character_of unescaped text_of escaped shape_of admitted_of zoom_of poi_of named_class rule_fields rule_of rule_row rule_line digits is_utf8 chars encode
 two_is_file = record {
-  fields = fields_of (message_at File (whole bytes_of_two));
+  fields = fields_of (message_at (File One) (whole bytes_of_two));
   parts = or_no_parts parts_of_two;
   form = two_is_message;
   parts_are = refl;
@@ -431,5 +478,5 @@ two_is_file = record {
 
 -- the order of two that are no object's is not asked
 equal_marks_of_no_object : file_break (above 1 new_year new_year (of_none ++ 0 ∷ [])) ≡ broken 217 kinds.BadId
-unfolding message_from field_at varint_in file_facts section_facts lines_from fields_from number_of character_of unescaped text_of escaped shape_of admitted_of zoom_of poi_of named_class rule_fields rule_of rule_row rule_line digits is_utf8 chars encode
+unfolding message_from field_at varint_in file_facts section_facts keyed_facts groups_facts lines_from fields_from number_of character_of unescaped text_of escaped shape_of admitted_of zoom_of poi_of named_class rule_fields rule_of rule_row rule_line digits is_utf8 chars encode
 equal_marks_of_no_object = refl

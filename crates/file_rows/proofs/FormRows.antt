@@ -8,6 +8,7 @@ use Rattle.obf_wire.specs.declared.file.FileKind.TheVariants as kinds
 use Rattle.file_grammar.specs.Messages.{Fields, ends, has_number, has_bytes, has_numbers, has_message, spelling}
 use Rattle.file_grammar.specs.Readings.{message_at, message_from, breaks}
 use Rattle.file_grammar.specs.declared.parts.Boxed.TheVariants.{Map}
+use Rattle.file_grammar.specs.declared.parts.Version.TheVariants.{One, Two}
 use Rattle.file_grammar.specs.declared.parts.Part.TheVariants.{File, Tree, Node, Block, Record}
 
 abbrev whole : List ℕ → Window
@@ -31,10 +32,15 @@ base_fields =
     (has_message 66 78 (has_message 75 14 (has_message 84 14 ends ends) (has_message 93 22 (has_message 102 14 ends ends) ends))
     (has_message 111 134 (has_numbers 121 10 [] ends) (has_number 123 256 1 ends))))))))
 
+-- the same with the number 2 as the version
+abbrev second_fields : Fields → Fields
+second_fields (has_number at key version rest) = has_number at key 2 rest
+second_fields fields = fields
+
 base_length : length base ≡ 126
 base_length = refl
 
-base_read : message_at File (whole base) ≡ Ok base_fields
+base_read : message_at (File One) (whole base) ≡ Ok base_fields
 unfolding message_from field_at varint_in
 base_read = refl
 
@@ -45,7 +51,7 @@ base_spelled = refl
 -- The fronts of the base.
 
 abbrev cut : ℕ → Result Fields FileBreak
-cut k = message_at File (whole (take k base))
+cut k = message_at (File One) (whole (take k base))
 
 front_111 : cut 111 ≡ breaks 111 kinds.Short
 unfolding message_from field_at varint_in
@@ -94,7 +100,7 @@ front_0 = refl
 -- Other bytes.
 
 abbrev read : List ℕ → Result Fields FileBreak
-read bytes = message_at File (whole bytes)
+read bytes = message_at (File One) (whole bytes)
 
 abbrev with_byte : ℕ → ℕ → List ℕ
 with_byte place value = take place base ++ value ∷ drop (place + 1) base
@@ -115,13 +121,23 @@ version_2 : read (with_byte 1 2) ≡ breaks 0 kinds.BadVersion
 unfolding message_from field_at varint_in
 version_2 = refl
 
+-- in the form of the second version the number 2 is good, and the first version's is not
+second_form : message_at (File Two) (whole (with_byte 1 2)) ≡ Ok (second_fields base_fields)
+unfolding message_from field_at varint_in
+second_form = refl
+
+version_1_in_the_second_form : message_at (File Two) (whole base) ≡ breaks 0 kinds.BadVersion
+unfolding message_from field_at varint_in
+version_1_in_the_second_form = refl
+
 zero_bytes : read (0 ∷ 0 ∷ 0 ∷ []) ≡ breaks 0 kinds.BadKey
 unfolding message_from field_at varint_in
 zero_bytes = refl
 
-a_field_of_addresses : read (take 30 base ++ (62 ∷ wide 20) ++ (14 ∷ wide 2) ++ (10 ∷ 0 ∷ 22 ∷ []) ++ wide 0 ++ drop 57 base) ≡ breaks 48 kinds.BadKey
+-- an entry of a list of names without its first key
+an_entry_without_fields : read (take 30 base ++ (62 ∷ wide 20) ++ (14 ∷ wide 2) ++ (10 ∷ 0 ∷ 22 ∷ []) ++ wide 0 ++ drop 57 base) ≡ breaks 50 kinds.Short
 unfolding message_from field_at varint_in
-a_field_of_addresses = refl
+an_entry_without_fields = refl
 
 -- Nodes: a leaf, a node without children, a child at depth 24, one at depth 25.
 

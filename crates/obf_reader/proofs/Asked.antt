@@ -5,11 +5,9 @@ use Rattle.std.specs.List.{list_all}
 use Rattle.obf_wire.specs.declared.file.FileBreak.{FileBreak}
 use Rattle.obf_wire.specs.declared.file.FileKind.{FileKind}
 use Rattle.live_model.specs.declared.rules.Rule.{Rule}
-use Rattle.file_grammar.specs.BoxRules.{Beside, is_ordinal, section_facts}
+use Rattle.file_grammar.specs.BoxRules.{Beside, is_ordinal}
 use Rattle.file_grammar.specs.Facts.{Fact, fact, failing, earlier, first_failing}
-use Rattle.file_grammar.specs.Files.{FileParts, HeadNumbers, beside, file_facts, marks_beside, rise_strictly, rules_in}
-use Rattle.file_grammar.specs.MapRules.{map_boxing}
-use Rattle.file_grammar.specs.Sections.{section_in}
+use Rattle.file_grammar.specs.Files.{FileParts, HeadNumbers, beside, file_facts, marks_beside, rise_strictly, rules_in, sections_facts}
 use Rattle.file_grammar.proofs.Earlier.{and_one, and_last, first_joined}
 use Rattle.obf_reader.specs.declared.parts.PartsRead.{PartsRead}
 use Rattle.obf_reader.specs.Parts.{AreParts, beside_of, marks_of, own_facts}
@@ -48,13 +46,13 @@ marks_are read parts a =
 abbrev beside_with : List Rule → Option (List ℕ) → Beside
 beside_with rules marks = record { rules = rules; marks = marks }
 
--- beside the section stands what was read
+-- beside the sections stands what was read
 pub beside_are : (read : PartsRead) (parts : FileParts) → AreParts read parts → beside_of read ≡ beside parts
 beside_are read parts a =
     ap (λ (rules : List Rule). beside_with rules (marks_of read)) a.rules
     ∙ ap (λ (marks : Option (List ℕ)). beside_with (unwrap_or (rules_in parts.rules.value) []) marks) (marks_are read parts a)
 
--- what fails first of a file: of the parts, or of the section
-pub first_of_both : (parts : FileParts) → first_failing (file_facts parts) ≡ earlier (first_failing (own_facts parts)) (first_failing (section_facts map_boxing (beside parts) (section_in parts.map)))
+-- what fails first of a file: of the parts, or of the sections
+pub first_of_both : (parts : FileParts) → first_failing (file_facts parts) ≡ earlier (first_failing (own_facts parts)) (first_failing (sections_facts (beside parts) parts))
 unfolding file_facts
-first_of_both parts = first_joined (own_facts parts) (section_facts map_boxing (beside parts) (section_in parts.map))
+first_of_both parts = first_joined (own_facts parts) (sections_facts (beside parts) parts)

@@ -1,7 +1,9 @@
 -- The fields of a file, of its head and of its marks.
 use Rattle.std.proofs.Common.{◌≡◌, ℕ, List, Some, None, refl, ap, ◌∙◌}
 use Rattle.file_grammar.specs.declared.parts.Boxed.TheVariants.{Map}
-use Rattle.file_grammar.specs.declared.parts.Part.TheVariants.{Boxes, File, Head, Marks, NoAddresses, NoRoads, Nothing}
+use Rattle.file_grammar.specs.declared.parts.Version.{Version}
+use Rattle.file_grammar.specs.declared.parts.Part.{Part}
+use Rattle.file_grammar.specs.declared.parts.Part.TheVariants.{Addresses, Boxes, File, Head, Marks, Pois, Routing}
 use Rattle.file_grammar.specs.Files.{HeadNumbers}
 use Rattle.file_grammar.specs.Messages.{Fields, has_number, has_bytes, has_message}
 use Rattle.file_grammar.proofs.FileShape.{BeginsBytes, begins_bytes, begins_version}
@@ -34,17 +36,18 @@ pub record IsFileShape (fields : Fields) : Type 0 where
   pub head_shaped : IsShaped Head None head
   pub marks_shaped : IsShaped Marks None marks
 
-pub file_shape : (fields : Fields) → IsShaped File None fields → IsFileShape fields
-file_shape fields s =
-    let one : BeginsNumber File 8 fields = begins_version File None 8 fields refl refl refl s in
-    let two : BeginsMessage File 18 Head one.rest = begins_message File (Some 8) 18 Head one.rest refl refl refl one.shaped in
-    let three : BeginsBytes File 26 two.rest = begins_bytes File (Some 18) 26 two.rest refl refl refl two.shaped in
-    let four : BeginsMessage File 54 (Boxes Map) three.rest = begins_message File (Some 26) 54 (Boxes Map) three.rest refl refl refl three.shaped in
-    let five : BeginsMessage File 62 NoAddresses four.rest = begins_message File (Some 54) 62 NoAddresses four.rest refl refl refl four.shaped in
-    let six : BeginsMessage File 70 Nothing five.rest = begins_message File (Some 62) 70 Nothing five.rest refl refl refl five.shaped in
-    let seven : BeginsMessage File 78 NoRoads six.rest = begins_message File (Some 70) 78 NoRoads six.rest refl refl refl six.shaped in
-    let eight : BeginsMessage File 134 Marks seven.rest = begins_message File (Some 78) 134 Marks seven.rest refl refl refl seven.shaped in
-    let nine : BeginsNumber File 256 eight.rest = begins_number File (Some 134) 256 eight.rest refl refl refl eight.shaped in
+pub file_shape : (v : Version) (fields : Fields) → IsShaped (File v) None fields → IsFileShape fields
+file_shape v fields s =
+    let file : Part = File v in
+    let one : BeginsNumber file 8 fields = begins_version v file None 8 fields refl refl refl s in
+    let two : BeginsMessage file 18 Head one.rest = begins_message file (Some 8) 18 Head one.rest refl refl refl one.shaped in
+    let three : BeginsBytes file 26 two.rest = begins_bytes file (Some 18) 26 two.rest refl refl refl two.shaped in
+    let four : BeginsMessage file 54 (Boxes Map) three.rest = begins_message file (Some 26) 54 (Boxes Map) three.rest refl refl refl three.shaped in
+    let five : BeginsMessage file 62 (Addresses v) four.rest = begins_message file (Some 54) 62 (Addresses v) four.rest refl refl refl four.shaped in
+    let six : BeginsMessage file 70 Pois five.rest = begins_message file (Some 62) 70 Pois five.rest refl refl refl five.shaped in
+    let seven : BeginsMessage file 78 Routing six.rest = begins_message file (Some 70) 78 Routing six.rest refl refl refl six.shaped in
+    let eight : BeginsMessage file 134 Marks seven.rest = begins_message file (Some 78) 134 Marks seven.rest refl refl refl seven.shaped in
+    let nine : BeginsNumber file 256 eight.rest = begins_number file (Some 134) 256 eight.rest refl refl refl eight.shaped in
     record {
       a = one.at;
       version = one.value;

@@ -1,38 +1,37 @@
 -- A file that breaks no rule, and what its parts then are.
-use Rattle.std.proofs.Common.{◌≡◌, ◌≢◌, ◌<◌, ◌≤◌, length, get_or, ◌/◌, ◌%◌, ◌^◌, ◌*◌, ◌+◌, ◌-◌, ℕ, zero, suc, Bool, true, false, List, [], ◌∷◌, Option, Some, None, Ok, refl, sym, ap, subst, ◌∙◌, inl, inr, arith}
-use Rattle.std.specs.Prelude.{ℤ, pos, negsuc, ◌&&◌, bytes_eq, if◌then◌else◌, unsigned_abs, is_some, nat_le, unwrap_or, slice_get, MatchOption, map}
+use Rattle.std.proofs.Common.{◌≡◌, ◌≢◌, ◌<◌, ◌≤◌, length, get_or, ◌/◌, ◌%◌, ◌^◌, ◌*◌, ◌+◌, ◌-◌, ℕ, zero, suc, Bool, true, false, List, [], ◌∷◌, ◌++◌, Option, Some, None, Ok, refl, sym, ap, subst, ◌∙◌, inl, inr, arith}
+use Rattle.std.specs.Prelude.{ℤ, pos, negsuc, ◌&&◌, bytes_eq, if◌then◌else◌, unsigned_abs, is_some, nat_le, unwrap_or, slice_get, MatchOption}
 use Rattle.std.specs.List.{list_all}
 use Rattle.std.specs.Option.{option_and_then}
 use Rattle.std.specs.Ordering.{is_le}
 use Rattle.std.proofs.lemmas.Bool.{and_parts, cases_Bool, cases_lt, leb-true}
-use Rattle.std.proofs.lemmas.List.{length-map}
 use Rattle.live_model.specs.declared.ids.Kind.{Kind}
 use Rattle.live_model.specs.declared.ids.Kind.TheVariants.{Node, Way, Relation}
 use Rattle.live_model.specs.declared.rules.Rule.{Rule}
 use Rattle.live_model.specs.Ids.{Id, IsId, ordinal, rank}
 use Rattle.file_grammar.specs.BoxRules.{is_ordinal, section_facts}
-use Rattle.file_grammar.specs.Facts.{AllHold, first_failing}
-use Rattle.file_grammar.specs.Files.{FileParts, beside, break_in_file, facts_in, file_break, file_facts, file_in, is_head, rise_strictly, rules_in, whole}
+use Rattle.file_grammar.specs.Facts.{AllHold, Fact, first_failing}
+use Rattle.file_grammar.specs.Files.{FileParts, beside, break_in_file, facts_in, file_break, file_facts, file_in, file_records, is_head, rise_strictly, rules_in, section_records, version_of, whole}
+use Rattle.file_grammar.specs.declared.parts.Version.{Version}
 use Rattle.file_grammar.specs.declared.parts.Part.TheVariants.{File}
-use Rattle.file_grammar.specs.Messages.{Fields}
-use Rattle.file_grammar.specs.Readings.{IsInMemory, message_at}
-use Rattle.file_grammar.specs.MapRules.{map_boxing, map_records_in}
+use Rattle.file_grammar.specs.Messages.{Fields, IsMessage}
+use Rattle.file_grammar.specs.Readings.{IsInMemory}
+use Rattle.file_grammar.specs.MapRules.{map_boxing}
 use Rattle.file_grammar.specs.Sections.{section_in}
 use Rattle.file_grammar.proofs.ReadIsSpelled.{read_is_spelled}
 use Rattle.live_model.specs.declared.records.Rec.{Rec}
-use Rattle.live_model.specs.declared.records.Rec.TheVariants.{Map}
 use Rattle.live_model.specs.Maps.{in_order, placed}
 use Rattle.live_model.specs.Records.{record_cmp}
 use Rattle.live_model.specs.Rules.{rule_lines, rules_text, spelled_rules}
-use Rattle.file_grammar.specs.declared.parts.Boxed.TheVariants.{Map as MapPart}
-use Rattle.boxed_read.specs.Sound.{IsChecked}
+use Rattle.map_section.specs.Listed.{HoldsSection}
 use Rattle.obf_reader.specs.Images.{IsImage, IsImageFile, Seen, map_window}
+use Rattle.obf_reader.specs.Spread.{read_file}
 use Rattle.file_grammar.proofs.Earlier.{one_first_break_law}
 use Rattle.file_grammar.proofs.FileLaws.{read_of}
 
 -- ---- files
 
--- what has to hold of a file outside its map section
+-- what has to hold of a file outside its sections of records
 pub record AreSound (parts : FileParts) : Type 0 where
   pub head : is_head parts.head.value ≡ true
   pub rules : is_some (rules_in parts.rules.value) ≡ true
@@ -51,12 +50,12 @@ all_hold fields parts none are =
 -- the bytes are of good form, and their parts are sound
 pub record IsSoundFile (bytes : List ℕ) : Type 0 where
   pub fields : Fields
-  pub form : message_at File (whole bytes) ≡ Ok fields
+  pub form : read_file bytes ≡ Ok fields
   pub sound : (parts : FileParts) → file_in fields ≡ Some parts → AreSound parts
 
 pub sound_file : (bytes : List ℕ) → file_break bytes ≡ None → IsSoundFile bytes
 sound_file bytes e =
-    let r = read_of (message_at File (whole bytes)) e in
+    let r = read_of (read_file bytes) e in
     let none : first_failing (facts_in (file_in r.0)) ≡ None = ap break_in_file (sym r.1) ∙ e in
     record {
       fields = r.0;
@@ -82,14 +81,14 @@ as_many (x ∷ xs) = as_many_placed x (in_order xs) ∙ ap suc (as_many xs)
 pub file_of : (image : Seen) → IsImage image → IsInMemory (whole image.bytes) → IsImageFile image
 file_of image i memory =
     let h = i.holds in
-    let s = read_is_spelled File None (whole image.bytes) h.fields memory h.form in
+    let s = read_is_spelled (File (version_of image.bytes)) None (whole image.bytes) h.fields memory h.form in
     let none : first_failing (facts_in (file_in h.fields)) ≡ None = ap break_in_file (sym h.form) ∙ i.unbroken in
     record {
-      records = in_order (map Map (map_records_in (section_in h.parts.map)));
+      records = file_records h.parts;
       file = record {
         fields = h.fields;
         parts = h.parts;
-        form = record { form = s.form; spelled = s.spelled };
+        form = subst (λ (v : Version). IsMessage (File v) (whole image.bytes) h.fields) (sym h.version) (record { form = s.form; spelled = s.spelled });
         parts_are = h.are;
         sound = all_hold h.fields h.parts none h.are;
         head_is = h.head.0;
@@ -97,7 +96,7 @@ file_of image i memory =
         marks_are = h.marks;
         records_are = refl;
       };
-      count = h.records ∙ sym (length-map (map_records_in (section_in h.parts.map)) Map) ∙ sym (as_many (map Map (map_records_in (section_in h.parts.map))));
+      count = h.records ∙ sym (as_many (section_records h.parts));
     }
 
 kept_rules : (keep : Bool) (rules kept : List Rule) → (if keep then Some rules else None) ≡ Some kept → (keep ≡ true) × (rules ≡ kept)
@@ -112,15 +111,30 @@ few_of text (Some spelled) rules e =
     let few = leb-true (length spelled) 100000 (and_parts (nat_le (length spelled) 100000) (bytes_eq text (rules_text spelled)) kept.0).0 in
     subst (λ (rules : List Rule). length rules ≤ 100000) kept.1 few
 
--- the map section of an image was checked
-pub section_checked : (image : Seen) → IsImage image → IsChecked MapPart map_boxing (map_window image) image.kept
-section_checked image i =
+-- what holds of all sections holds of the first
+first_of_four : (a b c d : List Fact) → AllHold (a ++ b ++ c ++ d) → AllHold a
+first_of_four a b c d all = all_before a b (all_before (a ++ b) c (all_before (a ++ b ++ c) d all))
+  where
+    all_before : (xs ys : List Fact) → AllHold (xs ++ ys) → AllHold xs
+    all_before [] ys all = tt
+    all_before (x ∷ xs) ys all = (all.0, all_before xs ys all.1)
+
+-- the map section of an image is sound
+pub section_holds : (image : Seen) → IsImage image → HoldsSection (map_window image)
+unfolding file_facts
+section_holds image i =
     let h = i.holds in
+    let none : first_failing (facts_in (file_in h.fields)) ≡ None = ap break_in_file (sym h.form) ∙ i.unbroken in
+    let all = all_hold h.fields h.parts none h.are in
     let rules : unwrap_or (rules_in h.parts.rules.value) [] ≡ image.rules = ap (λ (o : Option (List Rule)). unwrap_or o []) h.rules in
     record {
+      window = record { ordered = h.inside.map.0; within = h.inside.map.1 };
       beside = beside h.parts;
       few = subst (λ (rules : List Rule). length rules ≤ 100000) (sym rules) (few_of h.parts.rules.value (spelled_rules (rule_lines h.parts.rules.value)) image.rules h.rules);
-      is = h.kept;
+      fields = h.parts.map;
+      read = h.sections.map;
+      sound = (one_first_break_law (section_facts map_boxing (beside h.parts) (section_in h.parts.map))).none.1
+          (first_of_four _ _ _ _ all.1.1.1.1.1.1);
     }
 
 pub some_rules : (r : Option (List Rule)) (rules : List Rule) → is_some r ≡ true → rules ≡ unwrap_or r [] → r ≡ Some rules

@@ -8,4 +8,5 @@ pub mod NumberLists
 pub mod RuleTexts
 pub mod Spread
 pub mod FileWalk
+pub mod Checked
 pub mod GoodFiles

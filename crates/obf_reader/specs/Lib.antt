@@ -1,5 +1,6 @@
 pub mod Heads
 pub mod Images
+pub mod Kept
 pub mod MarkLists
 pub mod Parts
 pub mod Spread

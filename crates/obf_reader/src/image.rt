@@ -1,56 +1,44 @@
 //! A map file that was read.
 
-ghost use Rattle.std.specs.Prelude.{◌≡◌, ◌==◌, None, Some, length, map, slice_get, true, IfErr, IfOk, IfSome, MatchOption, Ok};
+ghost use Rattle.std.specs.Prelude.{◌≡◌, ◌==◌, None, Some, length, slice_get, true, IfErr, IfOk, MatchOption};
 ghost use Rattle.std.specs.List.{list_all, list_any};
 ghost use Rattle.std.specs.Ordering.{nat_cmp};
 ghost use Rattle.live_model.specs.Ids.{ordinal};
 ghost use Rattle.ordered_lists.specs.Ordered.{IsRisingBy};
 ghost use Rattle.stamp_core.specs.Heads.{IsGoodHead};
-ghost use Rattle.file_grammar.specs.declared.parts.Part.TheVariants.{Boxes, File};
-ghost use Rattle.file_grammar.specs.Files.{FileParts, facts_in, file_break, file_in, whole};
-ghost use Rattle.file_grammar.specs.declared.parts.Boxed.TheVariants.{Map};
-ghost use Rattle.file_grammar.specs.BoxRules.{is_ordinal, section_facts};
-ghost use Rattle.file_grammar.specs.Facts.{earlier, first_failing};
-ghost use Rattle.file_grammar.specs.MapRules.{map_boxing};
-ghost use Rattle.file_grammar.specs.Sections.{section_in};
-ghost use Rattle.boxed_exact.specs.Breaks.{section_break as break_of_section};
-ghost use Rattle.boxed_exact.specs.Sides.{AreRising, beside, ordinals_of};
-ghost use Rattle.file_grammar.specs.Messages.{Fields};
-ghost use Rattle.file_grammar.specs.Readings.{IsInMemory, message_at};
-ghost use Rattle.file_grammar.specs.Listed.{block_records};
-ghost use Rattle.map_section.specs.MapLawful.{map_reads};
-ghost use Rattle.obf_reader.specs.Images.{IsImage, IsImageFile, IsImageOf, map_window};
-ghost use Rattle.obf_reader.specs.Parts.{AreParts, IsReadOf, beside_of, marks_of, own_facts};
-ghost use Rattle.obf_reader.specs.Reads.{IsGoodRead, IsMapKept};
-ghost use Rattle.obf_reader.specs.Spread.{IsInBytes, window_of};
+ghost use Rattle.file_grammar.specs.Files.{file_break, whole};
+ghost use Rattle.file_grammar.specs.BoxRules.{is_ordinal};
+ghost use Rattle.file_grammar.specs.Readings.{IsInMemory};
 ghost use Rattle.boxed_exact.specs.Breaks.{Breaks};
+ghost use Rattle.map_section.specs.Listed.{HoldsSection};
+ghost use Rattle.obf_reader.specs.Images.{IsImage, IsImageFile, IsImageOf, map_window};
+ghost use Rattle.obf_reader.specs.Reads.{IsGoodRead};
 
 use crate::heads::head_of;
-use crate::parts::{PartsRead, check_parts, read_parts};
-use crate::top::top_of;
-use boxed_check::{Kept, see_section, survey};
-use boxed_exact::{Around, Payload, check_exactly};
-use file_grammar::{FirstBreak, Part, form};
+use crate::parts::{PartsRead, read_parts};
+use crate::reading::{first_break, kept_of, read_good};
+use crate::sections::KeptSections;
+use crate::spans::Sections;
+use file_grammar::{Part, Version, form};
 use live_model::ObjId;
-use boxed_read::Section;
-use map_section::MapClass;
-use obf_wire::{FileBreak, FileError, Marks, Window};
-use owned_data::{Mem, NoMemory};
+use map_section::Section;
+use obf_wire::{FileError, Window};
 use stamp_core::Head;
 use std::alloc::Global;
 use std::marker::Model;
 use tag_rules::Rules;
 
-/// A map file: its bytes, which break no rule, and what they hold. It is seen as its bytes, its head, its
-/// rules, its marks as ordinals, where its section of map records stands, and how many records that has.
+/// A map file: its bytes, which break no rule, and what they hold. It is seen as its bytes, its version, its head, its
+/// rules, its marks as ordinals, where its sections of records stand, and how many records these have.
 #[derive(Debug, Drop)]
 pub struct Image {
     bytes: Vec<u8>,
+    version: Version,
     head: Head,
     rules: Rules,
     marks: Vec<u64>,
-    map: Payload,
-    kept: Kept,
+    sections: Sections,
+    kept: KeptSections,
 }
 
 impl Model for Image {
@@ -58,9 +46,9 @@ impl Model for Image {
 
     ghost Value = { Seen };
 
-    ghost view = { λ image. record { bytes = image.bytes.items; head = image.head; rules = image.rules; marks = image.marks.items; map = image.map; kept = image.kept; records = image.kept.records } };
+    ghost view = { λ image. record { bytes = image.bytes.items; version = image.version; head = image.head; rules = image.rules; marks = image.marks.items; sections = image.sections; kept = image.kept; records = image.kept.records } };
 
-    ghost invariant = { λ image. IsImage (record { bytes = image.bytes.items; head = image.head; rules = image.rules; marks = image.marks.items; map = image.map; kept = image.kept; records = image.kept.records }) };
+    ghost invariant = { λ image. IsImage (record { bytes = image.bytes.items; version = image.version; head = image.head; rules = image.rules; marks = image.marks.items; sections = image.sections; kept = image.kept; records = image.kept.records }) };
 }
 
 impl Image {
@@ -82,7 +70,7 @@ impl Image {
         ensures good { IfOk result (λ image. (file_break bytes.items ≡ None) × IsImageOf bytes.items image) }
         ensures broken { IfErr result (λ error. Breaks error (file_break bytes.items)) }
     {
-        form(Part::File, Window::whole(&bytes))?;
+        form(Part::File(Version::of(&bytes)), Window::whole(&bytes))?;
         let parts = read_parts(alloc, &bytes)?;
         if let Some(found) = first_break(alloc, &bytes, &parts)? {
             return Err(FileError::Broken(found));
@@ -92,16 +80,17 @@ impl Image {
     }
 
     /// The image of a file that breaks no rule.
-    fn of(bytes: Vec<u8>, parts: PartsRead, kept: Kept) -> Image
+    fn of(bytes: Vec<u8>, parts: PartsRead, kept: KeptSections) -> Image
         requires { IsGoodRead bytes.items parts kept }
         ensures { IsImageOf bytes.items result }
     {
         Image {
+            version: Version::of(&bytes),
             bytes,
             head: head_of(parts.head),
             rules: parts.rules.rules,
             marks: parts.marks.marks,
-            map: parts.map,
+            sections: parts.sections,
             kept,
         }
     }
@@ -112,6 +101,13 @@ impl Image {
         ensures file { IsImage self.now }
     {
         self.bytes.as_slice()
+    }
+
+    /// The version of its form.
+    pub fn version(&self) -> Version
+        ensures { result ≡ self.now.version }
+    {
+        self.version
     }
 
     /// What the file covers. Its stamps fit its level.
@@ -150,31 +146,27 @@ impl Image {
         self.marks.len()
     }
 
-    /// The section of map records: the records of each block, in the order of the file.
-    #[tactic(auto, using(crate::proofs::Images::section_checked))]
-    pub fn map(&self) -> Section<'_, MapClass>
-        ensures { (fields : Fields) → message_at (Boxes Map) (map_window self.now) ≡ Ok fields → result ≡ map (block_records map_reads) (section_in fields).blocks }
+    /// The section of map records. Its records can be listed from the bytes of the file.
+    #[tactic(auto, using(crate::proofs::Images::section_holds))]
+    pub fn map(&self) -> Section
+        ensures map { result ≡ record { from = self.now.sections.map.from; to = self.now.sections.map.to } }
+        ensures sound { HoldsSection (map_window self.now) }
     {
-        let window = Window::new(self.bytes.as_slice(), self.map.from, self.map.to);
-        Section::new(window, &self.kept)
+        Section {
+            from: self.sections.map.from,
+            to: self.sections.map.to,
+        }
     }
 
-    /// Where the section of map records stands.
-    pub fn map_span(&self) -> Payload
-        ensures { result ≡ self.now.map }
-    {
-        self.map
-    }
-
-    /// How many map records the file has.
+    /// How many records of all classes the file has.
     pub fn record_count(&self) -> usize
         ensures { result ≡ self.now.records }
     {
-        self.kept.records()
+        self.kept.records
     }
 }
 
-/// That the bytes of an image are a file with its head, its rules and its marks, and with as many records as it
+/// That the bytes of an image are a file of its version with its head, its rules and its marks, and with as many records as it
 /// counts. There is nothing to run.
 pub fn images_are_files(image: &Image)
     ensures { IsImageFile image.now }
@@ -207,124 +199,5 @@ fn has(marks: &[u64], ordinal: u64) -> bool
     match marks.binary_search(&ordinal) {
         Ok(_) => true,
         Err(_) => false,
-    }
-}
-
-/// The first break of a file of good form.
-fn first_break(alloc: Global, bytes: &[u8], parts: &PartsRead) -> Mem<Option<FileBreak>>
-    requires inside { IsInBytes bytes.now parts.now.map }
-    requires rising { IsRisingBy nat_cmp (λ n. n) parts.now.marks.marks.items }
-    ensures { IfOk result (λ found. (fields : Fields) → IsReadOf bytes.now parts.now fields → found ≡ first_failing (facts_in (file_in fields))) }
-{
-    let mut first = check_parts(parts);
-    let found = section_break(alloc, bytes, parts)?;
-    ask_found(&mut first, found);
-    Ok(first.found())
-}
-
-/// A break, where there is one, among those that were found before.
-fn ask_found(first: &mut FirstBreak, found: Option<FileBreak>)
-    ensures { first.new ≡ earlier first.old found }
-{
-    if let Some(found) = found {
-        first.ask(found.at, found.kind, false);
-    }
-}
-
-/// The first break of the section of map records.
-fn section_break(alloc: Global, bytes: &[u8], parts: &PartsRead) -> Mem<Option<FileBreak>>
-    requires inside { IsInBytes bytes.now parts.now.map }
-    requires rising { IsRisingBy nat_cmp (λ n. n) parts.now.marks.marks.items }
-    ensures { IfOk result (λ found. found ≡ break_of_section Map map_boxing (beside_of parts.now) (window_of bytes.now parts.now.map)) }
-{
-    let map = parts.map;
-    let around = around_of(parts);
-    match check_exactly::<MapClass>(alloc, Window::new(bytes, map.from, map.to), &around) {
-        Ok(_) => Ok(None),
-        Err(FileError::Broken(found)) => Ok(Some(found)),
-        Err(FileError::NoMemory) => Err(NoMemory),
-    }
-}
-
-/// What stands beside the section of map records.
-fn around_of(parts: &PartsRead) -> Around<'_>
-    requires { IsRisingBy nat_cmp (λ n. n) parts.now.marks.marks.items }
-    ensures beside { beside result ≡ beside_of parts.now }
-    ensures rising { AreRising result.marks }
-{
-    Around {
-        rules: &parts.rules.rules,
-        marks: marks_beside(parts),
-    }
-}
-
-/// What there is of the section of map records, of which every rule holds.
-fn kept_of(alloc: Global, bytes: &[u8], parts: &PartsRead) -> Mem<Kept>
-    requires inside { IsInBytes bytes.now parts.now.map }
-    requires sound { break_of_section Map map_boxing (beside_of parts.now) (window_of bytes.now parts.now.map) ≡ None }
-    ensures { IfOk result (IsMapKept bytes.now parts.now) }
-{
-    survey::<MapClass>(alloc, Window::new(bytes, parts.map.from, parts.map.to))
-}
-
-/// A file that was read in one pass and found good.
-#[derive(Debug, Drop)]
-pub(crate) struct GoodFile {
-    pub(crate) parts: PartsRead,
-    pub(crate) kept: Kept,
-}
-
-/// Reads a file in one pass: `Some` only where it breaks no rule. `None` says nothing.
-fn read_good(alloc: Global, bytes: &[u8]) -> Mem<Option<GoodFile>>
-    ensures { IfOk result (λ found. IfSome found (λ file. IsGoodRead bytes.now file.parts file.kept)) }
-{
-    let Some(top) = top_of(bytes) else {
-        return Ok(None);
-    };
-    let parts = read_parts(alloc, bytes)?;
-    if parts.map.from != top.map.from || parts.map.to != top.map.to {
-        return Ok(None);
-    }
-    if !are_good(&parts) {
-        return Ok(None);
-    }
-    let found = see_map(alloc, bytes, &parts)?;
-    let Some(kept) = found else {
-        return Ok(None);
-    };
-    Ok(Some(GoodFile { parts, kept }))
-}
-
-/// Whether every rule holds of the parts outside the section of map records.
-fn are_good(parts: &PartsRead) -> bool
-    ensures { result ≡ true → (own : FileParts) → AreParts parts.now own → first_failing (own_facts own) ≡ None }
-{
-    check_parts(parts).found().is_none()
-}
-
-/// The section of map records in one pass.
-fn see_map(alloc: Global, bytes: &[u8], parts: &PartsRead) -> Mem<Option<Kept>>
-    requires inside { IsInBytes bytes.now parts.now.map }
-    requires rising { IsRisingBy nat_cmp (λ n. n) parts.now.marks.marks.items }
-    ensures { IfOk result (λ found. IfSome found (IsMapKept bytes.now parts.now)) }
-{
-    let around = around_of(parts);
-    see_section::<MapClass>(
-        alloc,
-        Window::new(bytes, parts.map.from, parts.map.to),
-        &around,
-    )
-}
-
-/// The ordinals that records may have: in a base, and beside marks that break a rule of their own, every one.
-fn marks_beside(parts: &PartsRead) -> Marks<'_>
-    requires { IsRisingBy nat_cmp (λ n. n) parts.now.marks.marks.items }
-    ensures ordinals { ordinals_of result ≡ marks_of parts.now }
-    ensures rising { AreRising result }
-{
-    if parts.head.level == 0 || !(parts.marks.rise && parts.marks.ordinals) {
-        Marks::Any
-    } else {
-        Marks::Only(parts.marks.marks.as_slice())
     }
 }

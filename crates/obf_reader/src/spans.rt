@@ -1,22 +1,31 @@
 //! Where the parts of a file stand.
 
 ghost use Rattle.std.specs.Prelude.{◌≡◌, ◌≤◌, Ok, length};
-ghost use Rattle.file_grammar.specs.declared.parts.Part.TheVariants.{File, Marks};
-ghost use Rattle.file_grammar.specs.Files.{whole};
+ghost use Rattle.file_grammar.specs.declared.parts.Part.TheVariants.{Marks};
 ghost use Rattle.file_grammar.specs.Messages.{Fields};
 ghost use Rattle.file_grammar.specs.Readings.{message_at};
-ghost use Rattle.obf_reader.specs.Spread.{AreInside, HoldsMarks, IsInBytes, IsSpread};
+ghost use Rattle.obf_reader.specs.Spread.{AreInside, HoldsMarks, IsInBytes, IsSpread, read_file};
 
 use boxed_exact::{Number, Payload, next_number, next_payload};
-use file_grammar::{FieldWalk, Part};
+use file_grammar::{FieldWalk, Part, Version};
 use obf_wire::Window;
 
-/// Where the parts of a file stand that are read, and the version at its end.
+/// Where the sections of records stand.
+#[derive(Clone, Copy, Debug)]
+pub struct Sections {
+    pub(crate) map: Payload,
+    pub(crate) addresses: Payload,
+    pub(crate) pois: Payload,
+    pub(crate) roads: Payload,
+}
+
+/// Where the parts of a file stand, and the version at its beginning and again at its end.
 #[derive(Clone, Copy, Debug)]
 pub(crate) struct Spans {
+    pub(crate) version: Number,
     pub(crate) head: Payload,
     pub(crate) rules: Payload,
-    pub(crate) map: Payload,
+    pub(crate) sections: Sections,
     pub(crate) marks: Payload,
     pub(crate) again: Number,
 }
@@ -24,22 +33,28 @@ pub(crate) struct Spans {
 /// Goes over the fields of a file whose form is good.
 pub(crate) fn file_spans(bytes: &[u8]) -> Spans
     ensures inside { AreInside bytes.now result }
-    ensures spread { (fields : Fields) → message_at File (whole bytes.now) ≡ Ok fields → IsSpread bytes.now result fields }
+    ensures spread { (fields : Fields) → read_file bytes.now ≡ Ok fields → IsSpread bytes.now result fields }
 {
-    let mut walk = FieldWalk::new(Part::File, Window::whole(bytes));
-    next_number(&mut walk);
+    let mut walk = FieldWalk::new(Part::File(Version::of(bytes)), Window::whole(bytes));
+    let version = next_number(&mut walk);
     let head = next_payload(&mut walk);
     let rules = next_payload(&mut walk);
     let map = next_payload(&mut walk);
-    next_payload(&mut walk);
-    next_payload(&mut walk);
-    next_payload(&mut walk);
+    let addresses = next_payload(&mut walk);
+    let pois = next_payload(&mut walk);
+    let roads = next_payload(&mut walk);
     let marks = next_payload(&mut walk);
     let again = next_number(&mut walk);
     Spans {
+        version,
         head,
         rules,
-        map,
+        sections: Sections {
+            map,
+            addresses,
+            pois,
+            roads,
+        },
         marks,
         again,
     }

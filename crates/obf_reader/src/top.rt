@@ -1,4 +1,4 @@
-//! The fields of a file, whose form is good where that of its section of map records is.
+//! The fields of a file, whose form is good where that of its sections of records is.
 
 ghost use Rattle.std.specs.Prelude.{◌≡◌, ◌≤◌, ◌∷◌, [], length, true, false, None, Some, Ok, IfSome};
 ghost use Rattle.obf_wire.specs.Fields.{are_keys, field_at};
@@ -6,7 +6,7 @@ ghost use Rattle.file_grammar.specs.Readings.{break_in, message_at};
 ghost use Rattle.obf_wire.specs.KnownKeys.{IsInside};
 ghost use Rattle.obf_reader.specs.Tops.{IsTop};
 
-use file_grammar::{Part, form};
+use file_grammar::{Part, Version, form};
 use obf_wire::{Cursor, Field, Window};
 
 /// The keys of the fields of a file, in their order.
@@ -28,13 +28,16 @@ const MARKS: u64 = 134;
 
 const AGAIN: u64 = 256;
 
-/// The field of the section of map records.
+/// The fields of the sections of records.
 #[derive(Clone, Copy, Debug)]
 pub(crate) struct TopFields {
     pub(crate) map: Field,
+    pub(crate) addresses: Field,
+    pub(crate) pois: Field,
+    pub(crate) roads: Field,
 }
 
-/// The fields of a file, all of good form but the section of map records, of which nothing is asked.
+/// The fields of a file, all of good form but the sections of records, of which nothing is asked.
 pub(crate) fn top_of(bytes: &[u8]) -> Option<TopFields>
     ensures { IfSome result (IsTop bytes.now) }
 {
@@ -65,18 +68,18 @@ pub(crate) fn top_of(bytes: &[u8]) -> Option<TopFields>
     let Some(again) = keyed(bytes, marks.to, AGAIN) else {
         return None;
     };
-    if again.to != bytes.len() || version.value != 1 {
+    if again.to != bytes.len() || version.value != Version::of(bytes).number() {
         return None;
     }
-    if !is_form(Part::Head, bytes, &head)
-        || !is_form(Part::NoAddresses, bytes, &addresses)
-        || !is_form(Part::Nothing, bytes, &pois)
-        || !is_form(Part::NoRoads, bytes, &roads)
-        || !is_form(Part::Marks, bytes, &marks)
-    {
+    if !is_form(Part::Head, bytes, &head) || !is_form(Part::Marks, bytes, &marks) {
         return None;
     }
-    Some(TopFields { map })
+    Some(TopFields {
+        map,
+        addresses,
+        pois,
+        roads,
+    })
 }
 
 /// Whether the payload of a field has the form of a message.

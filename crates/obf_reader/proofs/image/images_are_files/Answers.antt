@@ -9,10 +9,11 @@ pub returns : goal.returns
 returns c =
     let image : Seen = record {
       bytes = c.image.inside.bytes.items;
+      version = c.image.inside.version;
       head = c.image.inside.head;
       rules = c.image.inside.rules;
       marks = c.image.inside.marks.items;
-      map = c.image.inside.map;
+      sections = c.image.inside.sections;
       kept = c.image.inside.kept;
       records = c.image.inside.kept.records;
     } in

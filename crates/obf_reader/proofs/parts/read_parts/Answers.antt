@@ -14,6 +14,7 @@ returns-clause-parts c fields e =
       parts = s.parts;
       are = s.are;
       read_are = record {
+        version = s.version;
         head_at = s.head_at;
         head = c.head_numbers.ensures s.head s.head_read ∙ sym s.head_is;
         rules_at = s.rules_at;
@@ -24,5 +25,5 @@ returns-clause-parts c fields e =
         again_at = s.again_at;
         again = s.again;
       };
-      map = s.map;
+      sections = s.sections;
     }
