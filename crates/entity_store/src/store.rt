@@ -90,11 +90,14 @@ impl Store {
     }
 
     /// Stages lines: what they leave, applied in turn to the entities, stands beside the store until the store is
-    /// changed. The entities stay, and after want of memory nothing is staged. The lines may come in any order, and
-    /// are copied. It costs what the lines are, and now and then some layers of changes are merged.
+    /// changed. The entities stay, there is no less room and there are no more layers than before, and after out of
+    /// memory nothing is staged. The lines may come in any order, and are copied. It costs what the lines are, and now
+    /// and then some layers of changes are merged.
     pub fn stage(&mut self, alloc: Global, lines: &[Line]) -> Mem<Staged>
         ensures entities { self.new.entities ≡ self.old.entities }
         ensures staged { IfOk result (λ s. after_changes self.old.entities s ≡ apply self.old.entities lines.now) }
+        ensures kept { self.old.spare ≤ self.new.spare }
+        ensures fewer { self.new.depth ≤ self.old.depth }
         ensures room { OnOk result (1 ≤ self.new.spare) }
         ensures depth { OnOk result (self.new.depth ≤ 32) }
     {
@@ -105,6 +108,8 @@ impl Store {
     fn stage_lines(&mut self, alloc: Global, lines: Vec<Line>) -> Mem<Staged>
         ensures entities { self.new.entities ≡ self.old.entities }
         ensures staged { IfOk result (λ s. after_changes self.old.entities s ≡ apply self.old.entities lines.items) }
+        ensures kept { self.old.spare ≤ self.new.spare }
+        ensures fewer { self.new.depth ≤ self.old.depth }
         ensures room { OnOk result (1 ≤ self.new.spare) }
         ensures depth { OnOk result (self.new.depth ≤ 32) }
     {
@@ -117,6 +122,8 @@ impl Store {
     /// Makes room for a layer, with few layers below it.
     fn make_room(&mut self, alloc: Global) -> Mem<()>
         ensures entities { self.new.entities ≡ self.old.entities }
+        ensures kept { self.old.spare ≤ self.new.spare }
+        ensures fewer { self.new.depth ≤ self.old.depth }
         ensures room { OnOk result (1 ≤ self.new.spare) }
         ensures depth { OnOk result (self.new.depth ≤ 32) }
     {

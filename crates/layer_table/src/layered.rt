@@ -62,12 +62,13 @@ impl<K: Ord, V> Layered<K, V> {
         self.spare
     }
 
-    /// Makes room for a layer. The map stays.
+    /// Makes room for a layer. The map stays, and after out of memory the table is as it was.
     pub fn reserve_layer(&mut self) -> Mem<()>
         ensures map { self.new.map ≡ self.old.map }
         ensures depth { self.new.depth ≡ self.old.depth }
         ensures kept { self.old.spare ≤ self.new.spare }
         ensures spare { OnOk result (1 ≤ self.new.spare) }
+        ensures refused { OnErr result (self.new ≡ self.old) }
     {
         if self.spare == 0 {
             self.layers.reserve(1)?;
@@ -124,24 +125,26 @@ impl<K: Ord + Drop, V: Drop> Layered<K, V> {
 }
 
 impl<K: Ord + Drop, V: Drop> Layered<K, V> {
-    /// Merges all layers into one. The map stays, and after want of memory the table is as it was. All memory is taken
+    /// Merges all layers into one. The map stays, and after out of memory the table is as it was. All memory is taken
     /// before a change is moved: room for the changes of all layers, twice.
     pub fn compact(&mut self, alloc: Global) -> Mem<()>
         ensures map { self.new.map ≡ self.old.map }
         ensures spare { self.old.spare ≤ self.new.spare }
+        ensures fewer { self.new.depth ≤ self.old.depth }
         ensures depth { OnOk result (self.new.depth ≤ 1) }
         ensures refused { OnErr result (self.new ≡ self.old) }
     {
         self.merge_above(alloc, 0)
     }
 
-    /// Merges the newest layers down to the first that is more than twice as long as all above it. The map stays, and
-    /// after want of memory the table is as it was. Where this comes before each push, a key is moved as often as the
-    /// logarithm of the number of changes tells, and there are no more layers than that, whatever the map's size.
+    /// Merges the newest layers down to the first that has more than twice as many changes as all above it: half of
+    /// its number, rounded down, is more than theirs. The map stays, and after out of memory the table is as it was.
+    /// Where this comes before each push, a key is moved as often as the logarithm of the number of changes tells, and
+    /// there are no more layers than that, whatever the map's size.
     pub fn settle(&mut self, alloc: Global) -> Mem<()>
         ensures map { self.new.map ≡ self.old.map }
         ensures spare { self.old.spare ≤ self.new.spare }
-        ensures depth { self.new.depth ≤ self.old.depth }
+        ensures fewer { self.new.depth ≤ self.old.depth }
         ensures refused { OnErr result (self.new ≡ self.old) }
     {
         let kept = settled(&self.layers);

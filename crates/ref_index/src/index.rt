@@ -84,9 +84,10 @@ impl RefIndex {
     }
 
     /// Stages lines: the index of the store after them stands beside this one until this one is changed. The looks are
-    /// those of the store before the lines and after them, and the index is that of the first. The index stays, and
-    /// after want of memory nothing is staged. It costs what the objects of the lines refer to and the users of that,
-    /// whatever the map's size, and now and then some layers of changes are merged.
+    /// those of the store before the lines and after them, and the index is that of the first. The index stays, there is
+    /// no less room and there are no more layers than before, and after out of memory nothing is staged. It costs what
+    /// the objects of the lines refer to and the users of that, whatever the map's size, and now and then some layers
+    /// of changes are merged.
     pub fn stage(
         &mut self,
         alloc: Global,
@@ -96,6 +97,8 @@ impl RefIndex {
     ) -> Mem<StagedRefs>
         ensures map { self.new.map ≡ self.old.map }
         ensures staged { IsStore before.now → AllByRecursion IsGoodLine lines.now → after.now ≡ apply before.now lines.now → Indexes self.old.map before.now → IfOk result (λ s. Indexes (laid nat_cmp self.old.map s) after.now) }
+        ensures kept { self.old.spare ≤ self.new.spare }
+        ensures fewer { self.new.depth ≤ self.old.depth }
         ensures room { OnOk result (1 ≤ self.new.spare) }
         ensures depth { OnOk result (self.new.depth ≤ 32) }
     {
@@ -125,6 +128,8 @@ impl RefIndex {
     /// Makes room for a layer, with few layers below it.
     fn make_room(&mut self, alloc: Global) -> Mem<()>
         ensures map { self.new.map ≡ self.old.map }
+        ensures kept { self.old.spare ≤ self.new.spare }
+        ensures fewer { self.new.depth ≤ self.old.depth }
         ensures room { OnOk result (1 ≤ self.new.spare) }
         ensures depth { OnOk result (self.new.depth ≤ 32) }
     {

@@ -92,7 +92,7 @@ fn some(alloc: Global, nodes: u32, count: u32, seed: u64) -> Mem<Vec<Line>> {
 }
 
 /// The line of a node.
-fn node(alloc: Global, number: u32, x: u32) -> Option<Line> {
+pub fn node(alloc: Global, number: u32, x: u32) -> Option<Line> {
     let id = ObjId::new(Kind::Node, i64::from(number))?;
     Some(Line::Live(Entity {
         id,

@@ -2,8 +2,8 @@
 //!
 //! The first word is the work: `wire` writes and reads numbers or points in their wire form, `rules` asks a table which rules
 //! match an object, `boxes` packs boxes and asks their tree for those in rectangles, `store` builds a store of nodes and commits
-//! changes of it, and `over` goes over a store. The words behind it say how, and how
-//! much. Without words a little of each is done. Printed are two numbers, so that no work can be left out. Nothing is claimed of
+//! changes of it, `users` does the same of a store of nodes and ways and the index of their users, `users-alone` builds that store without its index, and `over` goes over a
+//! store. The words after it say how, and how much. Without words a little of each is done. Printed are two numbers, so that no work can be left out. Nothing is claimed of
 //! it but that it is safe and ends.
 #![tactic(auto)]
 
@@ -14,8 +14,10 @@ mod numbers;
 mod points;
 mod search;
 mod state;
+mod users;
 
 use owned_data::{Mem, NoMemory};
+use ref_index::RefIndex;
 use std::alloc::Global;
 use std::process::ExitCode;
 use std::time::Instant;
@@ -97,6 +99,27 @@ fn changed(rt: &HostRuntime, nodes: u32, changes: u32, lines: u32) -> io::Result
     Ok(done.is_err())
 }
 
+/// Builds a store and its index, changes both, and prints besides how many nanoseconds each of the three took.
+fn followed(rt: &HostRuntime, objects: u32, changes: u32, lines: u32) -> io::Result<bool> {
+    let alloc = rt.alloc();
+    let began = Instant::now(rt)?;
+    let Ok(mut store) = users::built(alloc, objects) else {
+        return Ok(true);
+    };
+    let built = began.elapsed(rt)?.as_nanos();
+    let began = Instant::now(rt)?;
+    let Ok(mut index) = RefIndex::build(alloc, &store) else {
+        return Ok(true);
+    };
+    let indexed = began.elapsed(rt)?.as_nanos();
+    let began = Instant::now(rt)?;
+    let done = users::change(alloc, &mut store, &mut index, objects, changes, lines);
+    let took = began.elapsed(rt)?.as_nanos();
+    let sum = users::sum(&index, objects);
+    println!(rt; "{objects} {sum} {built} {indexed} {took}")?;
+    Ok(done.is_err())
+}
+
 /// Goes over a store, and over a list of its lines, and prints how many nanoseconds each took.
 fn gone_over(rt: &HostRuntime, nodes: u32, times: u32) -> io::Result<bool> {
     let alloc = rt.alloc();
@@ -127,6 +150,7 @@ fn main(rt: HostRuntime) -> io::Result<ExitCode> {
                 || print(&rt, in_boxes(alloc, "find", 1000, 3000))?
                 || print(&rt, changes::work(alloc, 1000, 40, 10))?
                 || print(&rt, changes::over(alloc, 1000, 3))?
+                || print(&rt, users::work(alloc, 1000, 40, 10))?
         }
         "wire" => print(&rt, wire(alloc, text(&one), number(&two)))?,
         "rules" => print(
@@ -138,6 +162,8 @@ fn main(rt: HostRuntime) -> io::Result<ExitCode> {
             in_boxes(alloc, text(&one), number(&two), number(&three)),
         )?,
         "store" => changed(&rt, number(&one), number(&two), number(&three))?,
+        "users" => followed(&rt, number(&one), number(&two), number(&three))?,
+        "users-alone" => print(&rt, users::alone(alloc, number(&one)))?,
         "over" => gone_over(&rt, number(&one), number(&two))?,
         _ => return Ok(ExitCode::from(2)),
     };
