@@ -15,7 +15,7 @@ ghost use Rattle.obf_run.specs.Finishing.{outcome_of};
 use crate::file_line::file_line;
 use crate::inputs::{read_image, read_rules, read_store};
 use crate::packing::{Built, packed};
-use derive_map::derive_all;
+use change_diff::base_records;
 use entity_store::Store;
 use live_model::{Entity, Level, Mem, Rect, Steps};
 use obf_reader::{Image, images_are_files};
@@ -84,7 +84,7 @@ fn image_line(alloc: Global, image: &Image) -> Mem<Vec<u8>>
     Ok(line)
 }
 
-/// The packed base file of the map records that the rules make of the base, and its line.
+/// The packed base file of all records that the rules make of the base, and its line.
 pub fn built_file<'a, F: Files, L: Ledger>(
     alloc: Global,
     files: &mut F,
@@ -108,7 +108,7 @@ const BASE: Head = Head {
     last: None,
 };
 
-/// The base file of the map records that the rules make of a store, and its line. The store is let go before the file is packed.
+/// The base file of all records that the rules make of a store, and its line. The store is let go before the file is packed.
 fn packed_base<L: Ledger>(
     alloc: Global,
     rules: &Rules,
@@ -118,7 +118,7 @@ fn packed_base<L: Ledger>(
     requires good { IsStore store.entities }
     ensures { IfOk result (λ built. IsPacked (base_parts rules.now store.entities) (outcome_of built)) }
 {
-    let records = derive_all(alloc, rules, &store, steps)?;
+    let records = base_records(alloc, rules, &store, steps)?;
     drop(store);
     packed(alloc, &BASE, rules, &[], &records)
 }

@@ -5,10 +5,10 @@ ghost use Rattle.std.specs.List.{AllByRecursion};
 ghost use Rattle.std.specs.List.Sorted.{IsSorted};
 ghost use Rattle.std.specs.Ordering.{nat_cmp};
 ghost use Rattle.live_model.specs.declared.levels.Level.TheVariants.{Base};
-ghost use Rattle.live_model.specs.Fits.{FitsMap};
+ghost use Rattle.live_model.specs.Fits.{FitsRules};
 ghost use Rattle.live_model.specs.Ids.{ordinal};
 ghost use Rattle.ordered_lists.specs.Ordered.{IsRisingBy};
-ghost use Rattle.live_model.specs.Records.{map_cmp};
+ghost use Rattle.live_model.specs.Records.{record_cmp, record_id};
 ghost use Rattle.outside.specs.Files.{FilesState};
 ghost use Rattle.stamp_core.specs.Heads.{IsGoodHead};
 ghost use Rattle.run_model.specs.Endings.{ending, name_bytes};
@@ -18,7 +18,7 @@ ghost use Rattle.obf_run.specs.Finishing.{IsFinished, IsPut, outcome_of};
 
 use crate::file_line::file_line;
 use crate::inputs::LIMIT;
-use live_model::{MapRec, Mem, ObjId};
+use live_model::{Mem, ObjId, Rec};
 use obf_writer::write_file;
 use outside::{Files, Sink, put_all};
 use run_model::{Name, Status};
@@ -39,14 +39,14 @@ pub fn packed(
     head: &Head,
     rules: &Rules,
     marks: &[ObjId],
-    records: &[MapRec],
+    records: &[Rec],
 ) -> Mem<Built>
     requires good { IsGoodHead head.now }
     requires rise { IsRisingBy nat_cmp ordinal marks.now }
     requires base { head.now.level ≡ Base → marks.now ≡ [] }
-    requires sorted { IsSorted map_cmp records.now }
-    requires fit { AllByRecursion (FitsMap rules.now) records.now }
-    requires marked { head.now.level ≢ Base → AllByRecursion (λ m. Contains marks.now m.id) records.now }
+    requires sorted { IsSorted record_cmp records.now }
+    requires fit { FitsRules rules.now records.now }
+    requires marked { head.now.level ≢ Base → AllByRecursion (λ r. Contains marks.now (record_id r)) records.now }
     ensures { IfOk result (λ built. IsPacked (record { head = head.now; rules = rules.now; marks = map ordinal marks.now; records = records.now }) (outcome_of built)) }
 {
     let line = file_line(alloc, head, marks.len(), records.len())?;

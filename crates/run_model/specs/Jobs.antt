@@ -3,17 +3,17 @@ use Rattle.std.specs.Prelude.{◌≡◌, ℕ, List, [], ◌∷◌, length, Optio
 use Rattle.live_model.specs.declared.levels.Level.TheVariants.{Base}
 use Rattle.live_model.specs.declared.objects.Entity.{Entity}
 use Rattle.live_model.specs.declared.objects.Line.{Line}
-use Rattle.live_model.specs.declared.records.MapRec.{MapRec}
 use Rattle.live_model.specs.declared.records.Rec.{Rec}
 use Rattle.live_model.specs.declared.rules.Rule.{Rule}
 use Rattle.live_model.specs.CanonicalLines.{lines_text, nodes_in}
+use Rattle.live_model.specs.Maps.{map_of}
 use Rattle.live_model.specs.OplTexts.{OplText}
 use Rattle.live_model.specs.Rules.{RuleText}
 use Rattle.live_model.specs.Stores.{apply}
 use Rattle.stamp_core.specs.declared.head.Head.{Head}
 use Rattle.stamp_core.specs.Heads.{IsGoodHead}
 use Rattle.stamp_core.specs.Hours.{IsCivilHour}
-use Rattle.derive_map.specs.MapRecords.{drawn_of}
+use Rattle.file_grammar.specs.declared.parts.Version.{Version}
 use Rattle.file_grammar.specs.Files.{IsFile, head_numbers}
 use Rattle.obf_writer.specs.PackedFile.{IsPackedFile}
 use Rattle.run_model.specs.Requests.{Asked, nodes, dump, build, check}
@@ -45,7 +45,7 @@ pub record Parts : Type 0 where
   pub head : Head
   pub rules : List Rule
   pub marks : List ℕ
-  pub records : List MapRec
+  pub records : List Rec
 
 -- written is the packed file of these parts, and its line is printed
 pub record IsPacked (parts : Parts) (outcome : Outcome) : Type 0 where
@@ -57,9 +57,9 @@ pub record IsPacked (parts : Parts) (outcome : Outcome) : Type 0 where
 abbrev pub base_head : Head
 base_head = record { level = Base; first = None; last = None }
 
--- a base has the map records that the rules make of the store, and no marks
+-- a base has all records that the rules make of the store, and no marks
 abbrev pub base_parts : List Rule → List Entity → Parts
-base_parts rules store = record { head = base_head; rules = rules; marks = []; records = drawn_of rules store }
+base_parts rules store = record { head = base_head; rules = rules; marks = []; records = map_of rules store }
 
 -- the packed base of the rules and the store is written, and its line is printed
 pub record IsBuilt (table text : List ℕ) (outcome : Outcome) : Type 0 where
@@ -69,15 +69,16 @@ pub record IsBuilt (table text : List ℕ) (outcome : Outcome) : Type 0 where
   pub made : IsStoreOf text store
   pub packed : IsPacked (base_parts rules store) outcome
 
--- the bytes are a map file, and its line is printed
+-- the bytes are a map file of some version, and its line is printed
 pub record IsChecked (bytes : List ℕ) (outcome : Outcome) : Type 0 where
+  pub version : Version
   pub head : Head
   pub good : IsGoodHead head
   pub civil : IfSome head.first IsCivilHour × IfSome head.last IsCivilHour
   pub rules : List Rule
   pub marks : List ℕ
   pub records : List Rec
-  pub file : IsFile bytes (head_numbers head) rules marks records
+  pub file : IsFile bytes version (head_numbers head) rules marks records
   pub same : outcome ≡ prints (file_line head (length marks) (length records))
 
 -- the outcome of what is asked for, where the files that are read have these bytes, in their order

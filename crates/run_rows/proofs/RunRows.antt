@@ -22,7 +22,7 @@ use Rattle.obf_wire.specs.declared.file.FileBreak.{FileBreak}
 use Rattle.live_model.specs.declared.points.Rect.{Rect}
 use Rattle.live_model.specs.declared.classes.Class.TheVariants.{Map as MapClass}
 use Rattle.live_model.specs.declared.shapes.Shape.TheVariants.{Point as PointShape}
-use Rattle.live_model.specs.declared.records.MapRec.{MapRec}
+use Rattle.live_model.specs.declared.records.Rec.TheVariants.{Map}
 use Rattle.live_model.specs.declared.records.Rec.{Rec}
 use Rattle.live_model.specs.declared.rules.Rule.{Rule}
 use Rattle.live_model.specs.declared.rules.RuleKind.TheVariants as rule
@@ -46,10 +46,16 @@ use Rattle.file_grammar.specs.Messages.{Fields, ends, IsMessage}
 use Rattle.file_grammar.specs.Readings.{IsInMemory, message_from, message_at}
 use Rattle.file_grammar.specs.Facts.{first_failing}
 use Rattle.file_grammar.specs.BoxRules.{section_facts}
+use Rattle.file_grammar.specs.declared.parts.Version.{Version}
+use Rattle.file_grammar.specs.declared.parts.Version.TheVariants.{Two}
 use Rattle.file_grammar.specs.Files.{FileParts, IsFile, file_facts, file_in, head_numbers, whole}
 use Rattle.file_grammar.proofs.Earlier.{one_first_break_law}
 use Rattle.file_grammar.proofs.ReadIsSpelled.{read_is_spelled}
 use Rattle.boxed_write.specs.Packed.{packed}
+use Rattle.file_grammar.specs.AddressRules.{keyed_facts}
+use Rattle.file_grammar.specs.PoiRules.{groups_facts}
+use Rattle.addr_section.specs.Packed.{packed_addresses}
+use Rattle.poi_section.specs.Packed.{packed_pois}
 use Rattle.obf_writer.specs.PackedFile.{packed_file, IsPackedFile}
 use Rattle.outside.specs.declared.named_file.NamedFile.{NamedFile}
 use Rattle.outside.specs.Faults.{Rose}
@@ -71,7 +77,7 @@ use Rattle.run_model.specs.Runs.{AreTold, Cause, Caused, CausedBy, Completes, En
 
 -- all that the rows compute with
 opened : Unit {0}
-unfolding lines_from fields_from number_of id_of magnitude_of degrees_of magnitude_text degrees_text character_of unescaped text_of escaped rect_of object_of ref_of version_of gone_of is_count is_time coordinate_of tag_of pairs_of refs_of member_of members_of letter_of line_of tests_of break_of text_break id_text tag_text ref_text member_text row_text line_text shape_of admitted_of zoom_of poi_of named_class rule_fields rule_of rule_tests rule_break rules_break rule_row rule_line records digits is_utf8 chars encode message_from field_at varint_in file_facts section_facts packed_file packed varint X.groups
+unfolding lines_from fields_from number_of id_of magnitude_of degrees_of magnitude_text degrees_text character_of unescaped text_of escaped rect_of object_of ref_of version_of gone_of is_count is_time coordinate_of tag_of pairs_of refs_of member_of members_of letter_of line_of tests_of break_of text_break id_text tag_text ref_text member_text row_text line_text shape_of admitted_of zoom_of poi_of named_class rule_fields rule_of rule_tests rule_break rules_break rule_row rule_line records digits is_utf8 chars encode message_from field_at varint_in file_facts section_facts keyed_facts groups_facts packed_file packed packed_addresses packed_pois varint X.groups
 opened = tt
 
 -- Words.
@@ -172,10 +178,10 @@ abbrev wide : ℕ → List ℕ
 wide n = 0 ∷ 0 ∷ 0 ∷ 0 ∷ 0 ∷ 0 ∷ 0 ∷ n ∷ []
 
 -- a base of no rules and no records, whose last byte is this
-abbrev bare_base : ℕ → List ℕ
-bare_base version =
-    (8 ∷ 1 ∷ 18 ∷ 6 ∷ 8 ∷ 0 ∷ 16 ∷ 0 ∷ 24 ∷ 0 ∷ 26 ∷ 0 ∷ []) ++ (54 ∷ wide 9) ++ (14 ∷ wide 0) ++ (62 ∷ wide 18) ++ (14 ∷ wide 0) ++ (22 ∷ wide 0) ++ (70 ∷ wide 0)
-    ++ (78 ∷ wide 36) ++ (14 ∷ wide 9) ++ (14 ∷ wide 0) ++ (22 ∷ wide 9) ++ (14 ∷ wide 0) ++ (134 ∷ 1 ∷ wide 2) ++ 10 ∷ 0 ∷ 128 ∷ 2 ∷ version ∷ []
+abbrev bare_base : ℕ → ℕ → List ℕ
+bare_base version again =
+    (8 ∷ version ∷ 18 ∷ 6 ∷ 8 ∷ 0 ∷ 16 ∷ 0 ∷ 24 ∷ 0 ∷ 26 ∷ 0 ∷ []) ++ (54 ∷ wide 9) ++ (14 ∷ wide 0) ++ (62 ∷ wide 18) ++ (14 ∷ wide 0) ++ (22 ∷ wide 0) ++ (70 ∷ wide 0)
+    ++ (78 ∷ wide 36) ++ (14 ∷ wide 9) ++ (14 ∷ wide 0) ++ (22 ∷ wide 9) ++ (14 ∷ wide 0) ++ (134 ∷ 1 ∷ wide 2) ++ 10 ∷ 0 ∷ 128 ∷ 2 ∷ again ∷ []
 
 rules_break_row : break_in rule_table far_zoom ≡ Some far_zoom_break
 unfolding opened
@@ -185,7 +191,7 @@ objects_break_row : break_in object_text located ≡ Some located_break
 unfolding opened
 objects_break_row = refl
 
-file_break_row : break_in map_file (bare_base 2) ≡ Some (InFile (record { at = 123; kind = file.BadConfirm }))
+file_break_row : break_in map_file (bare_base 2 1) ≡ Some (InFile (record { at = 123; kind = file.BadConfirm }))
 unfolding opened
 file_break_row = refl
 
@@ -197,7 +203,7 @@ good_objects : break_in object_text (codes "n5 x180 y-90") ≡ None
 unfolding opened
 good_objects = refl
 
-good_file : break_in map_file (bare_base 1) ≡ None
+good_file : break_in map_file (bare_base 2 2) ≡ None
 unfolding opened
 good_file = refl
 
@@ -329,7 +335,7 @@ both_good : (stop (named (codes "r") [] ∷ named (codes "b") [] ∷ []) ≡ Non
 unfolding opened
 both_good = (refl, refl)
 
-file_broken : first_stop (contents_of (named (codes "f") (bare_base 2) ∷ [])) (plan_of (check (codes "f"))) ≡ Some (refused (codes "f") (InFile (record { at = 123; kind = file.BadConfirm })))
+file_broken : first_stop (contents_of (named (codes "f") (bare_base 2 1) ∷ [])) (plan_of (check (codes "f"))) ≡ Some (refused (codes "f") (InFile (record { at = 123; kind = file.BadConfirm })))
 unfolding opened
 file_broken = refl
 
@@ -359,7 +365,7 @@ output_just_fits name bytes fits = rw (le-ltb limit (length bytes) fits) refl
 no_output : due_for None None ≡ done
 no_output = refl
 
-small_output : due_for (Some (codes "o")) (Some (bare_base 1)) ≡ done
+small_output : due_for (Some (codes "o")) (Some (bare_base 2 2)) ≡ done
 small_output = refl
 
 -- What may change.
@@ -523,32 +529,32 @@ or_no_parts None = record { head = record { at = 0; value = record { level = 0; 
 or_no_parts (Some parts) = parts
 
 abbrev bare_fields : Fields
-bare_fields = fields_of (message_at File (whole (bare_base 1)))
+bare_fields = fields_of (message_at (File Two) (whole (bare_base 2 2)))
 
 abbrev bare_parts : FileParts
 bare_parts = or_no_parts (file_in bare_fields)
 
-bare_in_memory : IsInMemory (whole (bare_base 1))
+bare_in_memory : IsInMemory (whole (bare_base 2 2))
 bare_in_memory = record {
-  window = record { ordered = leb-true 0 (length (bare_base 1)) refl; within = leb-true (length (bare_base 1)) (length (bare_base 1)) refl };
-  bytes = all_bytes (bare_base 1) refl;
-  few = ltb-true (length (bare_base 1)) (2 ^ 64) refl;
+  window = record { ordered = leb-true 0 (length (bare_base 2 2)) refl; within = leb-true (length (bare_base 2 2)) (length (bare_base 2 2)) refl };
+  bytes = all_bytes (bare_base 2 2) refl;
+  few = ltb-true (length (bare_base 2 2)) (2 ^ 64) refl;
 }
 
-bare_is_read : message_at File (whole (bare_base 1)) ≡ Ok bare_fields
+bare_is_read : message_at (File Two) (whole (bare_base 2 2)) ≡ Ok bare_fields
 unfolding opened
 bare_is_read = refl
 
-bare_is_message : IsMessage File (whole (bare_base 1)) bare_fields
+bare_is_message : IsMessage (File Two) (whole (bare_base 2 2)) bare_fields
 bare_is_message =
-    let s = read_is_spelled File None (whole (bare_base 1)) bare_fields bare_in_memory bare_is_read in
+    let s = read_is_spelled (File Two) None (whole (bare_base 2 2)) bare_fields bare_in_memory bare_is_read in
     record { form = s.form; spelled = s.spelled }
 
 none_fails : first_failing (file_facts bare_parts) ≡ None
 unfolding opened
 none_fails = refl
 
-bare_is_file : IsFile (bare_base 1) (head_numbers base_head) [] [] []
+bare_is_file : IsFile (bare_base 2 2) Two (head_numbers base_head) [] [] []
 unfolding opened
 bare_is_file = record {
   fields = bare_fields;
@@ -562,12 +568,12 @@ bare_is_file = record {
   records_are = refl;
 }
 
-bare_is_packed : IsPackedFile (bare_base 1) (head_numbers base_head) [] [] []
+bare_is_packed : IsPackedFile (bare_base 2 2) (head_numbers base_head) [] [] []
 unfolding opened
 bare_is_packed = record { packed = refl; file = bare_is_file }
 
 abbrev bare_outcome : Outcome
-bare_outcome = record { answer = codes "base - - 0 0" ++ 10 ∷ []; written = Some (bare_base 1) }
+bare_outcome = record { answer = codes "base - - 0 0" ++ 10 ∷ []; written = Some (bare_base 2 2) }
 
 built_of_nothing : Job building ([] ∷ [] ∷ []) bare_outcome
 unfolding opened
@@ -576,13 +582,13 @@ built_of_nothing = record {
   spelled = record { spelled = refl; within = omega arith };
   store = [];
   made = record { lines = []; spelled = record { spelled = refl; within = omega arith }; same = refl };
-  packed = record { bytes = bare_base 1; file = bare_is_packed; same = refl };
+  packed = record { bytes = bare_base 2 2; file = bare_is_packed; same = refl };
 }
 
 -- and read again
-bare_is_checked : Job (check (codes "o")) (bare_base 1 ∷ []) (prints (codes "base - - 0 0" ++ 10 ∷ []))
+bare_is_checked : Job (check (codes "o")) (bare_base 2 2 ∷ []) (prints (codes "base - - 0 0" ++ 10 ∷ []))
 unfolding opened
-bare_is_checked = record { head = base_head; good = refl; civil = (tt, tt); rules = []; marks = []; records = []; file = bare_is_file; same = refl }
+bare_is_checked = record { version = Two; head = base_head; good = refl; civil = (tt, tt); rules = []; marks = []; records = []; file = bare_is_file; same = refl }
 
 -- A record of one node, and another node that no rule matches.
 
@@ -601,8 +607,8 @@ plain = record { id = record { kind = Node; number = pos 2 }; version = 0; tags 
 abbrev drawn : Rule
 drawn = record { shape = PointShape; key = codes "a"; value = Some (codes "b"); zoom = 0; class = MapClass }
 
-abbrev only : MapRec
-only = record { id = record { kind = Node; number = pos 1 }; rule = 0; shape = PointShape; name = []; points = record { x = 1800000000; y = 900000000 } ∷ [] }
+abbrev only : Rec
+only = Map (record { id = record { kind = Node; number = pos 1 }; rule = 0; shape = PointShape; name = []; points = record { x = 1800000000; y = 900000000 } ∷ [] })
 
 built_of_two : (bytes : List ℕ) → IsPackedFile bytes (head_numbers base_head) (drawn ∷ []) [] (only ∷ [])
     → Job building (one_rule ∷ two_nodes ∷ []) (record { answer = codes "base - - 0 1" ++ 10 ∷ []; written = Some bytes })
@@ -620,10 +626,11 @@ hour_is_civil : IsCivilHour (civil_hour 2024 2 29 21)
 hour_is_civil = (omega arith, (omega arith, omega arith), (omega arith, leb-true 29 (days_in_month 2024 2) refl), omega arith)
 
 -- the marks are counted before the records
-checked_hour : (bytes : List ℕ) (rules : List Rule) (a b c : Rec) → IsFile bytes (record { level = 1; first = 2024022921; last = 2024022921 }) rules (7 ∷ []) (a ∷ b ∷ c ∷ [])
+checked_hour : (bytes : List ℕ) (version : Version) (rules : List Rule) (a b c : Rec) → IsFile bytes version (record { level = 1; first = 2024022921; last = 2024022921 }) rules (7 ∷ []) (a ∷ b ∷ c ∷ [])
     → Job (check (codes "f")) (bytes ∷ []) (prints (codes "hour 2024-02-29-21 2024-02-29-21 1 3" ++ 10 ∷ []))
 unfolding opened
-checked_hour bytes rules a b c file = record {
+checked_hour bytes version rules a b c file = record {
+  version = version;
   head = head Hour (civil_hour 2024 2 29 21) (civil_hour 2024 2 29 21);
   good = (omega arith, refl);
   civil = (hour_is_civil, hour_is_civil);
@@ -640,14 +647,14 @@ abbrev two_empty : List NamedFile
 two_empty = named (codes "r") [] ∷ named (codes "b") [] ∷ []
 
 abbrev with_output : List NamedFile
-with_output = named (codes "o") (bare_base 1) ∷ two_empty
+with_output = named (codes "o") (bare_base 2 2) ∷ two_empty
 
 abbrev empty_reads : List Reading
 empty_reads = reading (codes "r") 0 65536 [] ∷ reading (codes "b") 0 65536 [] ∷ []
 
 abbrev empty_run : Run
 empty_run = record {
-  files = change (files_at two_empty []) (record (files_at with_output empty_reads) { writes = writing (codes "o") (bare_base 1) true ∷ [] });
+  files = change (files_at two_empty []) (record (files_at with_output empty_reads) { writes = writing (codes "o") (bare_base 2 2) true ∷ [] });
   out = change (sink_at []) (sink_at (codes "base - - 0 0" ++ 10 ∷ []));
   err = change (sink_at []) (sink_at []);
   steps = change 0 0;
@@ -684,7 +691,7 @@ empty_is_built =
 
 empty_keeps : Keeps done (output_of building) empty_run.files empty_run.out
 empty_keeps = record {
-  writes = record { contents = others_stay; writes = inr (bare_base 1, true, refl); faults = omega arith };
+  writes = record { contents = others_stay; writes = inr (bare_base 2 2, true, refl); faults = omega arith };
   read_faults = omega arith;
   put_faults = omega arith;
 }
