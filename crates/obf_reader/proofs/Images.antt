@@ -23,7 +23,8 @@ use Rattle.live_model.specs.declared.records.Rec.{Rec}
 use Rattle.live_model.specs.Maps.{in_order, placed}
 use Rattle.live_model.specs.Records.{record_cmp}
 use Rattle.live_model.specs.Rules.{rule_lines, rules_text, spelled_rules}
-use Rattle.map_section.specs.Listed.{HoldsSection}
+use Rattle.file_grammar.specs.declared.parts.Boxed.TheVariants.{Map as MapPart}
+use Rattle.boxed_read.specs.Sound.{IsChecked}
 use Rattle.obf_reader.specs.Images.{IsImage, IsImageFile, Seen, map_window}
 use Rattle.obf_reader.specs.Spread.{read_file}
 use Rattle.file_grammar.proofs.Earlier.{one_first_break_law}
@@ -111,30 +112,15 @@ few_of text (Some spelled) rules e =
     let few = leb-true (length spelled) 100000 (and_parts (nat_le (length spelled) 100000) (bytes_eq text (rules_text spelled)) kept.0).0 in
     subst (λ (rules : List Rule). length rules ≤ 100000) kept.1 few
 
--- what holds of all sections holds of the first
-first_of_four : (a b c d : List Fact) → AllHold (a ++ b ++ c ++ d) → AllHold a
-first_of_four a b c d all = all_before a b (all_before (a ++ b) c (all_before (a ++ b ++ c) d all))
-  where
-    all_before : (xs ys : List Fact) → AllHold (xs ++ ys) → AllHold xs
-    all_before [] ys all = tt
-    all_before (x ∷ xs) ys all = (all.0, all_before xs ys all.1)
-
--- the map section of an image is sound
-pub section_holds : (image : Seen) → IsImage image → HoldsSection (map_window image)
-unfolding file_facts
-section_holds image i =
+-- the map section of an image was checked
+pub section_checked : (image : Seen) → IsImage image → IsChecked MapPart map_boxing (map_window image) image.kept.map
+section_checked image i =
     let h = i.holds in
-    let none : first_failing (facts_in (file_in h.fields)) ≡ None = ap break_in_file (sym h.form) ∙ i.unbroken in
-    let all = all_hold h.fields h.parts none h.are in
     let rules : unwrap_or (rules_in h.parts.rules.value) [] ≡ image.rules = ap (λ (o : Option (List Rule)). unwrap_or o []) h.rules in
     record {
-      window = record { ordered = h.inside.map.0; within = h.inside.map.1 };
       beside = beside h.parts;
       few = subst (λ (rules : List Rule). length rules ≤ 100000) (sym rules) (few_of h.parts.rules.value (spelled_rules (rule_lines h.parts.rules.value)) image.rules h.rules);
-      fields = h.parts.map;
-      read = h.sections.map;
-      sound = (one_first_break_law (section_facts map_boxing (beside h.parts) (section_in h.parts.map))).none.1
-          (first_of_four _ _ _ _ all.1.1.1.1.1.1);
+      is = h.kept.map;
     }
 
 pub some_rules : (r : Option (List Rule)) (rules : List Rule) → is_some r ≡ true → rules ≡ unwrap_or r [] → r ≡ Some rules

@@ -1,6 +1,6 @@
 //! A map file that was read.
 
-ghost use Rattle.std.specs.Prelude.{◌≡◌, ◌==◌, None, Some, length, slice_get, true, IfErr, IfOk, MatchOption};
+ghost use Rattle.std.specs.Prelude.{◌≡◌, ◌==◌, None, Some, length, map, slice_get, true, IfErr, IfOk, MatchOption, Ok};
 ghost use Rattle.std.specs.List.{list_all, list_any};
 ghost use Rattle.std.specs.Ordering.{nat_cmp};
 ghost use Rattle.live_model.specs.Ids.{ordinal};
@@ -10,7 +10,13 @@ ghost use Rattle.file_grammar.specs.Files.{file_break, whole};
 ghost use Rattle.file_grammar.specs.BoxRules.{is_ordinal};
 ghost use Rattle.file_grammar.specs.Readings.{IsInMemory};
 ghost use Rattle.boxed_exact.specs.Breaks.{Breaks};
-ghost use Rattle.map_section.specs.Listed.{HoldsSection};
+ghost use Rattle.file_grammar.specs.declared.parts.Boxed.TheVariants.{Map};
+ghost use Rattle.file_grammar.specs.declared.parts.Part.TheVariants.{Boxes};
+ghost use Rattle.file_grammar.specs.Listed.{block_records};
+ghost use Rattle.file_grammar.specs.Messages.{Fields};
+ghost use Rattle.file_grammar.specs.Readings.{message_at};
+ghost use Rattle.file_grammar.specs.Sections.{section_in};
+ghost use Rattle.map_section.specs.MapLawful.{map_reads};
 ghost use Rattle.obf_reader.specs.Images.{IsImage, IsImageFile, IsImageOf, map_window};
 ghost use Rattle.obf_reader.specs.Reads.{IsGoodRead};
 
@@ -19,9 +25,10 @@ use crate::parts::{PartsRead, read_parts};
 use crate::reading::{first_break, kept_of, read_good};
 use crate::sections::KeptSections;
 use crate::spans::Sections;
+use boxed_read::Section;
 use file_grammar::{Part, Version, form};
 use live_model::ObjId;
-use map_section::Section;
+use map_section::MapClass;
 use obf_wire::{FileError, Window};
 use stamp_core::Head;
 use std::alloc::Global;
@@ -146,16 +153,13 @@ impl Image {
         self.marks.len()
     }
 
-    /// The section of map records. Its records can be listed from the bytes of the file.
-    #[tactic(auto, using(crate::proofs::Images::section_holds))]
-    pub fn map(&self) -> Section
-        ensures map { result ≡ record { from = self.now.sections.map.from; to = self.now.sections.map.to } }
-        ensures sound { HoldsSection (map_window self.now) }
+    /// The section of map records: the records of each block, in the order of the file.
+    #[tactic(auto, using(crate::proofs::Images::section_checked))]
+    pub fn map(&self) -> Section<'_, MapClass>
+        ensures { (fields : Fields) → message_at (Boxes Map) (map_window self.now) ≡ Ok fields → result ≡ map (block_records map_reads) (section_in fields).blocks }
     {
-        Section {
-            from: self.sections.map.from,
-            to: self.sections.map.to,
-        }
+        let window = Window::new(self.bytes.as_slice(), self.sections.map.from, self.sections.map.to);
+        Section::new(window, &self.kept.map)
     }
 
     /// How many records of all classes the file has.
