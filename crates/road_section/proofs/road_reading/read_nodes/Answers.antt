@@ -1,4 +1,4 @@
-use Rattle.std.proofs.Common.{◌≡◌, ℕ, List, sym, subst}
+use Rattle.std.proofs.Common.{subst}
 use Rattle.obf_wire.specs.Fields.{Window, part_of}
 use Rattle.file_grammar.specs.RoadRules.{Stop}
 use Rattle.road_section.specs.Readings.{HoldsStops}
