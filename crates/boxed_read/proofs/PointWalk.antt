@@ -1,5 +1,5 @@
 -- Points and objects of sound records.
-use Rattle.std.proofs.Common.{◌≡◌, ◌≢◌, ℕ, ◌+◌, true, List, [], ◌∷◌, ◌++◌, map, Option, Some, None, Ok, refl, sym, ap, subst, ◌∙◌, append_assoc}
+use Rattle.std.proofs.Common.{◌≡◌, ◌≢◌, ℕ, true, List, [], ◌∷◌, ◌++◌, map, Option, Some, None, Ok, refl, sym, ap, subst, ◌∙◌, append_assoc}
 use Rattle.std.specs.Prelude.{ℤ, pos, ◌+ℤ◌, IsSome, MatchOption}
 use Rattle.std.specs.List.{list_all}
 use Rattle.std.proofs.lemmas.Bool.{and_parts}
@@ -12,7 +12,6 @@ use Rattle.coord_delta.specs.Steps.{Place, places, places_from}
 use Rattle.file_grammar.specs.BoxRules.{is_on_grid, is_ordinal}
 use Rattle.file_grammar.specs.MapRules.{point_from}
 use Rattle.file_grammar.specs.Readings.{numbers_at}
-use Rattle.file_grammar.specs.RecordRules.{only_point}
 use Rattle.file_grammar.specs.Sections.{object_of}
 use Rattle.boxed_exact.specs.declared.points.Step.{Step}
 use Rattle.boxed_exact.specs.Numbers.{AreFew, StepsOn}

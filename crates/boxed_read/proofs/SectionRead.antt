@@ -1,11 +1,11 @@
 -- The records of a section of which a check left where its blocks stand.
-use Rattle.std.proofs.Common.{◌≡◌, ℕ, ◌+◌, ◌≤◌, List, [], ◌∷◌, ◌++◌, length, map, Option, Some, Result, Ok, refl, sym, ap, subst, ◌∙◌, length-append, arith}
+use Rattle.std.proofs.Common.{◌≡◌, ℕ, ◌+◌, ◌≤◌, List, [], ◌∷◌, length, map, Result, Ok, refl, sym, ap, ◌∙◌, length-append}
 use Rattle.std.specs.Prelude.{flat_map}
 use Rattle.std.specs.Option.{option_map_or}
 use Rattle.std.proofs.lemmas.List.{length-map}
 use Rattle.live_model.specs.Ids.{Id}
 use Rattle.obf_wire.specs.declared.file.FileBreak.{FileBreak}
-use Rattle.obf_wire.specs.Fields.{Window, part_of}
+use Rattle.obf_wire.specs.Fields.{Window}
 use Rattle.file_grammar.specs.declared.parts.Boxed.{Boxed}
 use Rattle.file_grammar.specs.declared.parts.Part.TheVariants.{Boxes}
 use Rattle.file_grammar.specs.BoxRules.{Beside, Boxing, block_facts, section_facts}
@@ -18,7 +18,7 @@ use Rattle.boxed_exact.specs.declared.fields.Payload.{Payload}
 use Rattle.boxed_laws.proofs.FittingRecords.{Holds, all_before, all_behind}
 use Rattle.boxed_check.specs.declared.kept.Kept.{Kept}
 use Rattle.boxed_check.specs.Keeping.{AreSpans, entries_of}
-use Rattle.boxed_read.specs.Records.{IsReading, fields_read, records_at, records_of}
+use Rattle.boxed_read.specs.Records.{IsReading, fields_read, records_of}
 use Rattle.boxed_read.specs.Sound.{HoldBlocks, IsChecked}
 use Rattle.boxed_read.specs.Steps.{joined}
 use Rattle.boxed_read.proofs.BlockRead.{any_place}

@@ -1,5 +1,5 @@
 -- Records as they are read of the bytes of a section.
-use Rattle.std.specs.Prelude.{◌≡◌, ℕ, List, [], ◌∷◌, ◌++◌, map, flat_map, true, Result, Ok, Err}
+use Rattle.std.specs.Prelude.{◌≡◌, ℕ, List, [], map, true, Result, Ok, Err}
 use Rattle.std.specs.Option.{option_map_or}
 use Rattle.live_model.specs.Ids.{Id}
 use Rattle.obf_wire.specs.declared.file.FileBreak.{FileBreak}

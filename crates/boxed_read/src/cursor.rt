@@ -11,7 +11,6 @@ use crate::entries::Entries;
 use crate::view::View;
 use boxed_exact::Payload;
 use live_model::Steps;
-
 use obf_wire::Window;
 use std::marker::Model;
 use std::sync::ledger::Ledger;

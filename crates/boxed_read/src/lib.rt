@@ -18,6 +18,6 @@ mod view;
 pub use class::ReadClass;
 pub use cursor::AllCursor;
 pub use entries::Entries;
-pub use parts::{object, one_point, points, text};
+pub use parts::{object, one_point, point_after, points, text};
 pub use section::Section;
 pub use view::View;

@@ -72,8 +72,8 @@ pub fn one_point(window: Window<'_>) -> Point
     }
 }
 
-/// The point that a step leads to.
-fn point_after(from: Point, step: Step) -> Point
+/// The point that a step leads to, which is on the grid.
+pub fn point_after(from: Point, step: Step) -> Point
     requires { is_on_grid (pos from.x +ℤ step.east, pos from.y +ℤ step.south) ≡ true }
     ensures x { pos result.x ≡ pos from.x +ℤ step.east }
     ensures y { pos result.y ≡ pos from.y +ℤ step.south }

@@ -4,9 +4,11 @@ ghost use Rattle.std.specs.Prelude.{◌≡◌, ◌<◌};
 ghost use Rattle.live_model.specs.Stores.{IsStore};
 
 use crate::sections::put_end;
+use boxed_read::Section;
 use derive_map::derive_all;
 use entity_store::Store;
 use live_model::{Level, Mem, ObjId, Steps};
+use map_section::MapClass;
 use obf_reader::{Image, images_are_files};
 use obf_wire::FileError;
 use obf_writer::write_file;
@@ -53,8 +55,9 @@ fn image(alloc: Global, fields: &mut Fields<'_>, out: &mut Answer) -> Result<(),
         put_id(&first, out)?;
     }
     out.word("map")?;
-    out.number(image.map().from as u64)?;
-    out.number(image.map().to as u64)?;
+    let map = image.map_span();
+    out.number(map.from as u64)?;
+    out.number(map.to as u64)?;
     out.word("records")?;
     put_listed(alloc, &image, out)
 }
@@ -114,8 +117,28 @@ fn listed(alloc: Global, fields: &mut Fields<'_>, out: &mut Answer) -> Result<()
 }
 
 fn put_listed(alloc: Global, image: &Image, out: &mut Answer) -> Result<(), RowError> {
-    out.number(image.record_count() as u64)?;
-    put_records(&image.map().list(alloc, image.bytes())?, out)
+    let section = image.map();
+    out.number(section.len() as u64)?;
+    put_all::<Brand>(alloc, &section, Blank::new(1), out)
+}
+
+/// Puts all records of a section.
+fn put_all<L: Ledger>(
+    alloc: Global,
+    section: &Section<'_, MapClass>,
+    blank: Blank,
+    out: &mut Answer,
+) -> Result<(), RowError>
+    requires name { blank.name ≡ L.name }
+    requires parts { blank.parts ≡ L.parts }
+    requires some { 0 < blank.parts }
+{
+    let mut steps = Steps::<L>::new(blank);
+    let mut views = section.all();
+    while let Some(view) = views.next(&mut steps) {
+        put_records(&[view.copy(alloc)?], out)?;
+    }
+    Ok(())
 }
 
 fn packed_base<L: Ledger>(alloc: Global, rules: &Rules, store: &Store, blank: Blank) -> Mem<Vec<u8>>

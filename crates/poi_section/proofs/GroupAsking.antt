@@ -127,18 +127,18 @@ same_fields a b e = cc
 
 -- where the section is good, the group stands so
 kept_there : (beside : Beside) (bytes : List ℕ) (category records : Payload) (boxed : Fields) (group : Group) (new : Option FileBreak) (kept : Option Kept) → group.section ≡ section_in boxed → slice_range bytes category.from category.to ≡ group.category.value
-    → IsWindow (part_of bytes category.from category.to) → message_at (Boxes Poi) (part_of bytes records.from records.to) ≡ Ok boxed → MatchOption kept (new ≢ None) (IsKept Poi poi_boxing beside (part_of bytes records.from records.to))
+    → IsWindow (part_of bytes category.from category.to) → IsWindow (part_of bytes records.from records.to) → message_at (Boxes Poi) (part_of bytes records.from records.to) ≡ Ok boxed → MatchOption kept (new ≢ None) (IsKept Poi poi_boxing beside (part_of bytes records.from records.to))
     → MatchOption kept (new ≢ None) (λ kept. IsGroupKept beside bytes (record { category = category; records = records; kept = kept }) group)
-kept_there beside bytes category records boxed group new None section slice inside read bad = bad
-kept_there beside bytes category records boxed group new (Some kept) section slice inside read is = record { inside = inside; category = slice; section = is; is = ap section_in (same_fields is.fields boxed (sym is.read ∙ read)) ∙ sym section }
+kept_there beside bytes category records boxed group new None section slice inside within read bad = bad
+kept_there beside bytes category records boxed group new (Some kept) section slice inside within read is = record { inside = inside; within = within; category = slice; section = is; is = ap section_in (same_fields is.fields boxed (sym is.read ∙ read)) ∙ sym section }
 
 -- a group whose category and section stand there, asked rule by rule
 pub group_asked : (beside : Beside) (bytes : List ℕ) (prev : Option Group) (at : ℕ) (before : List ℕ) (fields : Fields) (group : Group) (m : IsGroupMessage fields) (text : List ℕ) (category records : Payload) (w : Window) (rise named some : Bool)
     (start a b c new : Option FileBreak) (kept : Option Kept) → group_with at fields ≡ Some group → category_before prev ≡ before → slice_range bytes category.from category.to ≡ m.category → text ≡ slice_range bytes category.from category.to → category.at ≡ m.a
     → w ≡ part_of bytes records.from records.to → message_at (Boxes Poi) (part_of bytes records.from records.to) ≡ Ok m.boxed → rise ≡ may_rise before text → named ≡ is_category text → some ≡ nat_lt 0 (length (section_in m.boxed).blocks)
     → a ≡ earlier start (failing (fact at BadOrder rise)) → b ≡ earlier a (failing (fact category.at BadText named)) → c ≡ earlier b (failing (fact at BadCount some)) → new ≡ earlier c (section_break Poi poi_boxing beside w)
-    → MatchOption kept (new ≢ None) (IsKept Poi poi_boxing beside w) → IsWindow (part_of bytes category.from category.to) → IsGroupAsked beside bytes prev group start new (record { category = category; records = records; kept = kept })
-group_asked beside bytes prev at before fields group m text category records w rise named some start a b c new kept is seen slice text_is at_is there read rise_is named_is some_are one two three four stands inside =
+    → MatchOption kept (new ≢ None) (IsKept Poi poi_boxing beside w) → IsWindow (part_of bytes category.from category.to) → IsWindow (part_of bytes records.from records.to) → IsGroupAsked beside bytes prev group start new (record { category = category; records = records; kept = kept })
+group_asked beside bytes prev at before fields group m text category records w rise named some start a b c new kept is seen slice text_is at_is there read rise_is named_is some_are one two three four stands inside within =
     let it : Group = record { at = at; category = placed m.a m.category; section = section_in m.boxed } in
     let same : it ≡ group = some_is it group (sym (ap (group_with at) m.is) ∙ is) in
     let value : text ≡ m.category = text_is ∙ slice in
@@ -153,7 +153,7 @@ group_asked beside bytes prev at before fields group m text category records w r
     (record {
       broken = asked_group beside prev it start a b c new pa pb pc pd;
       category = slice;
-      kept = kept_there beside bytes category records m.boxed it new kept refl slice inside read (subst (λ (v : Window). MatchOption kept (new ≢ None) (IsKept Poi poi_boxing beside v)) there stands);
+      kept = kept_there beside bytes category records m.boxed it new kept refl slice inside within read (subst (λ (v : Window). MatchOption kept (new ≢ None) (IsKept Poi poi_boxing beside v)) there stands);
     })
 
 -- ---- groups that were asked

@@ -90,7 +90,7 @@ groups_on beside w before f one kept all count total window read g rises l =
           (category_follows prev group (subst (λ (t : List ℕ). may_rise t category ≡ true) (sym is) rises), (g.named, (g.some, g.section.sound))) (l.facts (Some group) refl);
       more = one ∷ l.more;
       added = l.added ∙ append_assoc kept (one ∷ []) l.more;
-      are = (record { inside = g.inside; category = refl; section = g.section; is = refl }, l.are);
+      are = (record { inside = g.inside; within = g.within; category = refl; section = g.section; is = refl }, l.are);
       count_is = omega (arith, l.count_is, many, own, g.section.records);
     }
 
@@ -132,6 +132,7 @@ good_group beside w category records kept window r1 r2 all named k some = record
   a = category.at;
   b = records.at;
   inside = record { ordered = r1.inside.ordered; within = omega (arith, r1.inside.ends, window.within) };
+  within = record { ordered = r2.inside.ordered; within = omega (arith, r2.inside.ends, window.within) };
   named = named;
   section = k;
   some = subst (λ (n : ℕ). nat_lt 0 n ≡ true) (spans_some Poi w.bytes kept.blocks.items (section_in k.fields).blocks k.blocks) some;

@@ -7,3 +7,4 @@ pub mod RecordFacts
 pub mod PoiRead
 pub mod PackedPois
 pub mod PackedGroups
+pub mod GroupRead

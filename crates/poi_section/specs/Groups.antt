@@ -31,6 +31,7 @@ pois_break beside w = form_then (rules_break beside) (message_at Pois w)
 -- the group stands so among the bytes: its category, and the section of its records, of which every rule holds
 pub record IsGroupKept (beside : Beside) (bytes : List ℕ) (kept : GroupKept) (group : Group) : Type 0 where
   pub inside : IsWindow (part_of bytes kept.category.from kept.category.to)
+  pub within : IsWindow (part_of bytes kept.records.from kept.records.to)
   pub category : slice_range bytes kept.category.from kept.category.to ≡ group.category.value
   pub section : IsKept Poi poi_boxing beside (part_of bytes kept.records.from kept.records.to) kept.kept
   pub is : section_in section.fields ≡ group.section
@@ -65,6 +66,7 @@ pub record IsGoodGroup (beside : Beside) (w : Window) (kept : GroupKept) : Type 
   pub a : ℕ
   pub b : ℕ
   pub inside : IsWindow (part_of w.bytes kept.category.from kept.category.to)
+  pub within : IsWindow (part_of w.bytes kept.records.from kept.records.to)
   pub named : is_category (slice_range w.bytes kept.category.from kept.category.to) ≡ true
   pub section : IsKept Poi poi_boxing beside (part_of w.bytes kept.records.from kept.records.to) kept.kept
   pub some : nat_lt 0 (length (section_in section.fields).blocks) ≡ true

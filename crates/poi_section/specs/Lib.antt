@@ -7,3 +7,4 @@ pub mod PoiOrder
 pub mod PoiLawful
 pub mod PoiReads
 pub mod PoiReading
+pub mod PoiSections

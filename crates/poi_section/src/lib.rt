@@ -20,6 +20,7 @@ mod laws;
 mod one_pass;
 mod reading;
 mod record_rules;
+mod sections;
 mod writing;
 
 pub use checked::check;
@@ -30,4 +31,5 @@ pub use laws::{
     packed_pois_are_good, sound_categories_fit, sound_pois_fit,
 };
 pub use one_pass::see_groups;
+pub use sections::Pois;
 pub use writing::write;

@@ -6,3 +6,4 @@ pub mod StopWalk
 pub mod StraightLines
 pub mod Parts
 pub mod PackedSection
+pub mod StopRead

@@ -108,7 +108,7 @@ stops_on holder numbers stop seen w t l next =
     } in
     subst (λ (x : Stop). StopsLeft holder numbers x (seen_with holder seen x) (at_place w t.step.next)) (sym (next_is stop t s.n s.x s.y s.number s.east s.south)) p
 
-none_behind : (stop : Stop) (rest : List ℕ) → AreFew rest → behind stop rest ≡ []
+pub none_behind : (stop : Stop) (rest : List ℕ) → AreFew rest → behind stop rest ≡ []
 none_behind stop [] few = refl
 none_behind stop (a ∷ []) few = refl
 none_behind stop (a ∷ b ∷ []) few = refl

@@ -9,3 +9,4 @@ pub mod Routing
 pub mod SeenFacts
 pub mod Stops
 pub mod Straight
+pub mod Readings

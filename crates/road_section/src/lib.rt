@@ -9,6 +9,7 @@
 mod ban_checking;
 mod ban_class;
 mod ban_entries;
+mod ban_reading;
 mod ban_rules;
 mod good_nodes;
 mod laws;
@@ -17,6 +18,7 @@ mod order;
 mod road_checking;
 mod road_class;
 mod road_entries;
+mod road_reading;
 mod road_rules;
 mod section;
 mod stops;

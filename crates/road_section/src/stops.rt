@@ -103,7 +103,7 @@ fn is_numbered(number: i128) -> bool
 }
 
 /// The step that is next at `at` in the window; `None` where less than three numbers are left.
-fn next_triple(window: Window<'_>, at: usize) -> Option<Triple>
+pub(crate) fn next_triple(window: Window<'_>, at: usize) -> Option<Triple>
     requires { at ≤ window.to }
     ensures triple { (numbers : List ℕ) → numbers_at (part_of window.entry.bytes.now at window.entry.to) ≡ Ok numbers
         → IsTriple (part_of window.entry.bytes.now at window.entry.to) numbers result }

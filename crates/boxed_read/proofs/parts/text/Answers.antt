@@ -1,6 +1,5 @@
-use Rattle.std.proofs.Common.{List, ℕ, sym, subst}
+use Rattle.std.proofs.Common.{sym, subst}
 use Rattle.std.specs.Prelude.{IsUtf8}
-use Rattle.file_grammar.specs.Sections.{Placed}
 use Rattle.boxed_laws.specs.Classes.{PassUtf8}
 use Rattle.boxed_laws.proofs.RecordParts.{name_utf8}
 use Rattle.boxed_read.proofs.parts.text.Goals as goal

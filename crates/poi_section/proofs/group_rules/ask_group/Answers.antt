@@ -36,3 +36,4 @@ returns-clause-asked c fields group prev e is seen =
     c.args.first.now c.ask.new.self c.ask-2.new.self c.ask-3.new.self c.ask_section.new.first c.in_ok-kept.kept
     is seen slice text one.0 c.part-section.ensures.range read c.may_rise.ensures c.is_category.ensures (c.has_block.ensures m.boxed there) c.ask.ensures c.ask-2.ensures c.ask-3.ensures asked.asked asked.kept
     (record { ordered = c.next_payload-category.ensures.ordered; within = subst (λ (bs : List ℕ). category.to ≤ length bs) same c.next_payload-category.ensures.within })
+    (record { ordered = c.next_payload-records.ensures.ordered; within = subst (λ (bs : List ℕ). records.to ≤ length bs) (c.next_payload-category.ensures.same ∙ same) c.next_payload-records.ensures.within })

@@ -1,12 +1,12 @@
-use Rattle.std.proofs.Common.{◌≡◌, ◌∙◌, None, ap, sym, subst}
-use Rattle.obf_wire.specs.Fields.{Window, part_of}
+use Rattle.std.proofs.Common.{◌∙◌, None, ap, sym, subst}
+use Rattle.obf_wire.specs.Fields.{Window}
 use Rattle.obf_wire.specs.Windows.{range_of}
 use Rattle.file_grammar.specs.declared.parts.Boxed.{Boxed}
 use Rattle.file_grammar.specs.declared.parts.Part.TheVariants.{Block}
 use Rattle.file_grammar.specs.Walks.{Standing}
 use Rattle.boxed_read.specs.Records.{records_left}
 use Rattle.boxed_read.specs.Sound.{AreSoundLeft}
-use Rattle.boxed_read.proofs.BlockRead.{Begun, begun}
+use Rattle.boxed_read.proofs.BlockRead.{begun}
 use Rattle.boxed_read.proofs.entries.Entries.of_block.Goals as goal
 
 abbrev at_start : Window → Boxed → Standing

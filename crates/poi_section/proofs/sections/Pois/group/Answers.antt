@@ -1,0 +1,31 @@
+use Rattle.std.proofs.Common.{◌≡◌, ◌∙◌, List, Option, Some, None, sym, ap, subst}
+use Rattle.std.specs.Prelude.{slice_get}
+use Rattle.std.specs.Option.{option_map}
+use Rattle.std.proofs.lemmas.Option.{slice_get-map}
+use Rattle.live_model.specs.declared.records.PoiRec.{PoiRec}
+use Rattle.obf_wire.specs.Windows.{range_of}
+use Rattle.poi_section.specs.declared.kept.GroupKept.{GroupKept}
+use Rattle.poi_section.specs.PoiSections.{blocks_read}
+use Rattle.poi_section.proofs.GroupRead.{checked_groups, group_holds}
+use Rattle.poi_section.proofs.sections.Pois.group.Goals as goal
+
+pub section_of-requires : goal.section_of-requires
+section_of-requires c =
+    let p = c.self.inside in
+    group_holds p.window.bytes.now p.kept.now.groups.items c.args.index c.in-Some.group.now (checked_groups (range_of p.window) p.kept.now c.self.invariant)
+    (ap (λ (groups : List GroupKept). slice_get groups c.args.index) (sym c.groups.ensures) ∙ c.in-Some.ensures)
+
+pub returns-in-Some : goal.returns-in-Some
+returns-in-Some c =
+    let p = c.self.inside in
+    rw (← c.self.view_is)
+    (slice_get-map (blocks_read p.window.bytes.now) p.kept.now.groups.items c.args.index
+    ∙ ap (option_map (blocks_read p.window.bytes.now)) (ap (λ (groups : List GroupKept). slice_get groups c.args.index) (sym c.groups.ensures) ∙ c.in-Some.ensures)
+    ∙ ap (λ (blocks : List (List PoiRec)). Some blocks) (sym c.section_of.ensures))
+
+pub returns-in-None : goal.returns-in-None
+returns-in-None c =
+    let p = c.self.inside in
+    rw (← c.self.view_is)
+    (slice_get-map (blocks_read p.window.bytes.now) p.kept.now.groups.items c.args.index
+    ∙ ap (option_map (blocks_read p.window.bytes.now)) (ap (λ (groups : List GroupKept). slice_get groups c.args.index) (sym c.groups.ensures) ∙ c.in-None.ensures))

@@ -1,0 +1,21 @@
+use Rattle.std.proofs.Common.{◌≡◌, ◌∙◌, ℕ, List, Ok, map, sym, ap, subst}
+use Rattle.std.specs.Prelude.{slice_range}
+use Rattle.obf_wire.specs.Fields.{Window, part_of}
+use Rattle.file_grammar.specs.declared.parts.Boxed.TheVariants.{Poi}
+use Rattle.file_grammar.specs.declared.parts.Part.TheVariants.{Boxes}
+use Rattle.file_grammar.specs.Listed.{block_records}
+use Rattle.file_grammar.specs.PoiRules.{poi_boxing, poi_read}
+use Rattle.file_grammar.specs.Readings.{message_at}
+use Rattle.file_grammar.specs.Sections.{section_in}
+use Rattle.boxed_read.proofs.SectionRead.{section_read}
+use Rattle.poi_section.specs.PoiReading.{id_of, poi_is_read}
+use Rattle.poi_section.proofs.sections.section_of.Goals as goal
+
+pub returns : goal.returns
+returns c =
+    let kept = c.args.group.now in
+    let bytes : List ℕ = c.args.window.bytes.now in
+    let k = c.requires.checked.is in
+    let read = subst (λ (w : Window). message_at (Boxes Poi) w ≡ Ok k.fields) (sym c.part-records.ensures.range) k.read in
+    c.of_group.ensures k.fields read ∙ ap (λ (text : List ℕ). map (block_records (poi_read text)) (section_in k.fields).blocks) c.category_of.ensures
+    ∙ sym (section_read Poi poi_boxing poi_read id_of poi_is_read (slice_range bytes kept.category.from kept.category.to) (part_of bytes kept.records.from kept.records.to) kept.kept k.fields c.requires.checked k.read)
