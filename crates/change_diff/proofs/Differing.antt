@@ -29,14 +29,21 @@ module _ (p : Id → Bool) (made : Id → List Rec) where
       one false = refl
 
   -- the marks of one object more
-  pub one_more_mark : (whole before after : List Id) (id : Id) (rest : List Id) → after ≡ before ++ filter p (id ∷ []) → before ++ filter p (id ∷ rest) ≡ whole → after ++ filter p rest ≡ whole
-  one_more_mark whole before after id rest is are =
-      ap (λ ms. ms ++ filter p rest) is ∙ append_assoc before (filter p (id ∷ [])) (filter p rest) ∙ ap (λ ms. before ++ ms) (one_apart id rest) ∙ are
+  pub one_more_mark : (whole before after : List Id) (id : Id) (left rest : List Id) → left ≡ id ∷ rest → after ≡ before ++ filter p (id ∷ []) → before ++ filter p left ≡ whole → after ++ filter p rest ≡ whole
+  one_more_mark whole before after id left rest first is are =
+      ap (λ ms. ms ++ filter p rest) is
+      ∙ append_assoc before (filter p (id ∷ [])) (filter p rest)
+      ∙ ap (λ ms. before ++ ms) (one_apart id rest ∙ ap (filter p) (sym first))
+      ∙ are
 
   -- their records
-  pub one_more_records : (whole before after : List Rec) (id : Id) (rest : List Id) → after ≡ before ++ flat_map made (filter p (id ∷ [])) → before ++ flat_map made (filter p (id ∷ rest)) ≡ whole → after ++ flat_map made (filter p rest) ≡ whole
-  one_more_records whole before after id rest is are =
-      ap (λ rs. rs ++ flat_map made (filter p rest)) is ∙ append_assoc before (flat_map made (filter p (id ∷ []))) (flat_map made (filter p rest)) ∙ ap (λ rs. before ++ rs) (records_apart id rest) ∙ are
+  pub one_more_records : (whole before after : List Rec) (id : Id) (left rest : List Id) → left ≡ id ∷ rest → after ≡ before ++ flat_map made (filter p (id ∷ [])) → before ++ flat_map made (filter p left) ≡ whole
+      → after ++ flat_map made (filter p rest) ≡ whole
+  one_more_records whole before after id left rest first is are =
+      ap (λ rs. rs ++ flat_map made (filter p rest)) is
+      ∙ append_assoc before (flat_map made (filter p (id ∷ []))) (flat_map made (filter p rest))
+      ∙ ap (λ rs. before ++ rs) (records_apart id rest ∙ ap (λ ids. flat_map made (filter p ids)) (sym first))
+      ∙ are
 
 -- the touched objects that differ are the changed ones
 pub all_changed : (rules : List Rule) (store before after : List Entity) (lines : List Line) (ids : List Id) → before ≡ store → after ≡ apply store lines → ids ≡ touched store lines → IsStore store → AllByRecursion IsGoodLine lines

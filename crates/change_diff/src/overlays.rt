@@ -1,15 +1,13 @@
 //! What lines change in the map of a store.
 
 ghost use Rattle.std.specs.Prelude.{◌≡◌, ◌+◌, ◌*◌, ◌≤◌, length, IfOk, OnOk};
-ghost use Rattle.std.specs.List.{AllByRecursion};
 ghost use Rattle.std.specs.Ordering.{nat_cmp};
 ghost use Rattle.layer_table.specs.Layers.{laid};
 ghost use Rattle.entity_store.specs.Changes.{after_changes};
 ghost use Rattle.ref_index.specs.Indexes.{Indexes};
-ghost use Rattle.live_model.specs.Maps as Maps;
-ghost use Rattle.live_model.specs.Objects.{IsGoodLine};
-ghost use Rattle.live_model.specs.Stores.{IsStore, apply};
+ghost use Rattle.live_model.specs.Stores.{apply};
 ghost use Rattle.live_model.specs.Users.{touched};
+ghost use Rattle.change_diff.specs.Overlays.{IsChange, IsOverlayOf};
 
 use crate::comparing::{Changed, changed_among};
 use entity_store::{Look, Staged, Store};
@@ -47,9 +45,8 @@ pub fn overlay<L: Ledger>(
     ensures room { OnOk result ((1 ≤ store.new.spare) × (1 ≤ index.new.spare)) }
     ensures depth { OnOk result ((store.new.depth ≤ 32) × (index.new.depth ≤ 32)) }
     ensures staged { IfOk result (λ change. after_changes store.old.entities change.staged ≡ apply store.old.entities lines.now) }
-    ensures refs { IsStore store.old.entities → AllByRecursion IsGoodLine lines.now → Indexes index.old.map store.old.entities → IfOk result (λ change. Indexes (laid nat_cmp index.old.map change.refs) (apply store.old.entities lines.now)) }
-    ensures marks { IsStore store.old.entities → AllByRecursion IsGoodLine lines.now → Indexes index.old.map store.old.entities → IfOk result (λ change. change.marks.items ≡ (Maps.overlay rules.now store.old.entities lines.now).marks) }
-    ensures records { IsStore store.old.entities → AllByRecursion IsGoodLine lines.now → Indexes index.old.map store.old.entities → IfOk result (λ change. change.records.items ≡ (Maps.overlay rules.now store.old.entities lines.now).records) }
+    ensures refs { IsChange store.old.entities index.old.map lines.now → IfOk result (λ change. Indexes (laid nat_cmp index.old.map change.refs) (apply store.old.entities lines.now)) }
+    ensures overlay { IsChange store.old.entities index.old.map lines.now → IfOk result (λ change. IsOverlayOf rules.now store.old.entities lines.now change.marks.items change.records.items) }
     ensures counted { Indexes index.old.map store.old.entities → OnOk result (steps.new ≡ steps.old + 8 * length (touched store.old.entities lines.now)) }
     ensures most { Indexes index.old.map store.old.entities → steps.new ≤ steps.old + 8 * length (touched store.old.entities lines.now) }
 {

@@ -1,4 +1,4 @@
-use Rattle.std.proofs.Common.{◌∙◌, ◌++◌, ap, arith, filter, flat_map, length, sym}
+use Rattle.std.proofs.Common.{ap, arith, filter, flat_map, length}
 use Rattle.live_model.specs.Maps.{differs}
 use Rattle.live_model.specs.Records.{records}
 use Rattle.change_diff.proofs.Differing.{one_more_mark, one_more_records}
@@ -11,10 +11,10 @@ loop-id-preserved g c =
     let first = c.in-Some.ensures.cases.0 in
     record {
       marks =
-          one_more_mark differing made (filter differing c.args.ids.now) c.loop-id.found.marks.items c.put_if_changed.new.found.marks.items c.in-Some.id.now c.in-Some.others.now
-          c.in_ok-put_if_changed.ensures.marks (sym (ap (λ ids. c.loop-id.found.marks.items ++ filter differing ids) first) ∙ c.loop-id.invariant.marks);
+          one_more_mark differing made (filter differing c.args.ids.now) c.loop-id.found.marks.items c.put_if_changed.new.found.marks.items c.in-Some.id.now c.loop-id.rest.now c.in-Some.others.now first
+          c.in_ok-put_if_changed.ensures.marks c.loop-id.invariant.marks;
       records =
-          one_more_records differing made (flat_map made (filter differing c.args.ids.now)) c.loop-id.found.records.items c.put_if_changed.new.found.records.items c.in-Some.id.now c.in-Some.others.now
-          c.in_ok-put_if_changed.ensures.records (sym (ap (λ ids. c.loop-id.found.records.items ++ flat_map made (filter differing ids)) first) ∙ c.loop-id.invariant.records);
+          one_more_records differing made (flat_map made (filter differing c.args.ids.now)) c.loop-id.found.records.items c.put_if_changed.new.found.records.items c.in-Some.id.now c.loop-id.rest.now c.in-Some.others.now first
+          c.in_ok-put_if_changed.ensures.records c.loop-id.invariant.records;
       counted = let one = ap length first in omega (arith, one, c.in_ok-put_if_changed.ensures.counted, c.loop-id.invariant.counted);
     }
