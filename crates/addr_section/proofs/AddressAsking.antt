@@ -136,12 +136,12 @@ module _ (houses : Bool) (beside : Beside) where
   kept_one : {A B : Type 0} (f : A → Option B) (x : A) (xs : List A) (y : B) → f x ≡ Some y → filter_map f (x ∷ xs) ≡ y ∷ filter_map f xs
   kept_one f x xs y e = rw e refl
 
-  last_joined : (xs : List Address) (a : Address) → last_of (xs ++ a ∷ []) ≡ Some a
+  pub last_joined : (xs : List Address) (a : Address) → last_of (xs ++ a ∷ []) ≡ Some a
   last_joined [] a = refl
   last_joined (x ∷ []) a = refl
   last_joined (x ∷ y ∷ ys) a = last_joined (y ∷ ys) a
 
-  first_joined_key : (first : Option SortKey) (key : SortKey) (xs : List Address) (a : Address) → IsSortKeyOf first (first_of xs) → IsSortKeyOf (Some key) (Some a) → IsSortKeyOf (option_or first (Some key)) (first_of (xs ++ a ∷ []))
+  pub first_joined_key : (first : Option SortKey) (key : SortKey) (xs : List Address) (a : Address) → IsSortKeyOf first (first_of xs) → IsSortKeyOf (Some key) (Some a) → IsSortKeyOf (option_or first (Some key)) (first_of (xs ++ a ∷ []))
   first_joined_key None key [] a is one = one
   first_joined_key None key (x ∷ xs) a is one = absurd is
   first_joined_key (Some k) key [] a is one = absurd is

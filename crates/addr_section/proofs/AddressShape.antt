@@ -12,13 +12,8 @@ use Rattle.file_grammar.specs.Sections.{Placed, placed}
 use Rattle.file_grammar.proofs.FileShape.{BeginsBytes, begins_bytes}
 use Rattle.file_grammar.proofs.Shaped.{BeginsNumber, BeginsNumbers, IsShaped, begins_number, begins_numbers}
 use Rattle.addr_section.specs.declared.addresses.AddressSeen.{AddressSeen}
+use Rattle.addr_section.specs.Straight.{MayBeLang}
 use Rattle.addr_section.specs.Seen.{IsRead, lang_of}
-
--- nothing, or a language
-abbrev pub MayBeLang : Fields → Type 0
-MayBeLang ends = Unit {0}
-MayBeLang (has_bytes at key text rest) = Unit {0}
-MayBeLang fields = ⊥
 
 pub record IsAddressMessage (fields : Fields) : Type 0 where
   pub a : ℕ

@@ -1,9 +1,12 @@
 pub mod AddressAsking
 pub mod AddressShape
+pub mod Fitting
 pub mod Good
 pub mod ListAsking
 pub mod ListShape
+pub mod OnePass
 pub mod Orders
 pub mod SortKeys
 pub mod Steps
+pub mod StraightLines
 pub mod Whole

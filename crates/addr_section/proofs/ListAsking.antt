@@ -144,7 +144,7 @@ module _ (houses : Bool) (beside : Beside) where
   pair_first start (key ∷ keys) it its = refl
 
   -- the rules of a block, and those of the blocks after it
-  block_first : (start : ℕ) (keys : List KeyEntry) (prev : Option Address) (it : KeyedBlock) (its : List KeyedBlock)
+  pub block_first : (start : ℕ) (keys : List KeyEntry) (prev : Option Address) (it : KeyedBlock) (its : List KeyedBlock)
       → first_failing (blocks_facts houses beside start keys prev (it ∷ its))
       ≡ earlier (first_failing (block_facts houses beside start keys prev it)) (first_failing (blocks_facts houses beside start (drop 1 keys) (option_or (last_of it.addresses) prev) its))
   block_first start keys prev it its =
@@ -158,7 +158,7 @@ module _ (houses : Bool) (beside : Beside) where
       ∙ ap (λ (fs : List Fact). ((own ++ pairs) ++ (keyed_block_fact it ∷ counts)) ++ fs) (facts_joined prev it.addresses (addresses_in its)))
       ∙ sorted_facts own pairs (keyed_block_fact it) counts here there
 
-  keys_on : (bytes : List ℕ) (named : List EntryKept) (keys : List KeyEntry) → AreEntriesKept bytes named keys → AreEntriesKept bytes (drop 1 named) (drop 1 keys)
+  pub keys_on : (bytes : List ℕ) (named : List EntryKept) (keys : List KeyEntry) → AreEntriesKept bytes named keys → AreEntriesKept bytes (drop 1 named) (drop 1 keys)
   keys_on bytes [] [] are = are
   keys_on bytes [] (key ∷ keys) are = absurd are
   keys_on bytes (n ∷ ns) [] are = absurd are
@@ -205,7 +205,7 @@ module _ (houses : Bool) (beside : Beside) where
             counted = omega (arith, counted, joined, p.count);
           }
 
-  no_blocks : (start : ℕ) (keys : List KeyEntry) (prev : Option Address) → blocks_facts houses beside start keys prev [] ≡ unnamed keys
+  pub no_blocks : (start : ℕ) (keys : List KeyEntry) (prev : Option Address) → blocks_facts houses beside start keys prev [] ≡ unnamed keys
   no_blocks start [] prev = refl
   no_blocks start (key ∷ keys) prev = append-nil (unnamed (key ∷ keys) ++ []) ∙ append-nil (unnamed (key ∷ keys))
 

@@ -149,19 +149,19 @@ list_begin version bytes all kept w s is entries blocks e = record {
   blocks_kept = subst (λ (bs : List Payload). AreBlocksKept version bytes bs []) (sym blocks) tt;
 }
 
-entry_more : (bytes : List ℕ) (kept : List EntryKept) (entries : List KeyEntry) (one : EntryKept) (entry : KeyEntry) → AreEntriesKept bytes kept entries → IsEntryKept bytes one entry → AreEntriesKept bytes (kept ++ one ∷ []) (entries ++ entry ∷ [])
+pub entry_more : (bytes : List ℕ) (kept : List EntryKept) (entries : List KeyEntry) (one : EntryKept) (entry : KeyEntry) → AreEntriesKept bytes kept entries → IsEntryKept bytes one entry → AreEntriesKept bytes (kept ++ one ∷ []) (entries ++ entry ∷ [])
 entry_more bytes [] [] one entry are is = (is, tt)
 entry_more bytes [] (e ∷ es) one entry are is = absurd are
 entry_more bytes (k ∷ ks) [] one entry are is = absurd are
 entry_more bytes (k ∷ ks) (e ∷ es) one entry are is = (are.0, entry_more bytes ks es one entry are.1 is)
 
-block_more : (version : Version) (bytes : List ℕ) (kept : List Payload) (blocks : List KeyedBlock) (one : Payload) (block : KeyedBlock) → AreBlocksKept version bytes kept blocks → IsBlockKept version bytes one block → AreBlocksKept version bytes (kept ++ one ∷ []) (blocks ++ block ∷ [])
+pub block_more : (version : Version) (bytes : List ℕ) (kept : List Payload) (blocks : List KeyedBlock) (one : Payload) (block : KeyedBlock) → AreBlocksKept version bytes kept blocks → IsBlockKept version bytes one block → AreBlocksKept version bytes (kept ++ one ∷ []) (blocks ++ block ∷ [])
 block_more version bytes [] [] one block are is = (is, tt)
 block_more version bytes [] (b ∷ bs) one block are is = absurd are
 block_more version bytes (k ∷ ks) [] one block are is = absurd are
 block_more version bytes (k ∷ ks) (b ∷ bs) one block are is = (are.0, block_more version bytes ks bs one block are.1 is)
 
-kept_one : {A B : Type 0} (f : A → Option B) (x : A) (xs : List A) (y : B) → f x ≡ Some y → filter_map f (x ∷ xs) ≡ y ∷ filter_map f xs
+pub kept_one : {A B : Type 0} (f : A → Option B) (x : A) (xs : List A) (y : B) → f x ≡ Some y → filter_map f (x ∷ xs) ≡ y ∷ filter_map f xs
 kept_one f x xs y e = rw e refl
 
 step : (version : Version) (bytes : List ℕ) (all : Fields) (kept new : ListKept) (s behind : Standing) (f : Field) (rest : Fields) (l : ListLeft version bytes all kept s) → l.rest ≡ rest → s.part ≡ ListPart version → s.window.bytes ≡ bytes → IsNext s behind f rest

@@ -2,6 +2,8 @@ pub mod Asked
 pub mod Breaks
 pub mod Kept
 pub mod Keyed
+pub mod Laws
 pub mod Layout
 pub mod Packed
 pub mod Seen
+pub mod Straight

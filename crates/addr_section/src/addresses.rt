@@ -16,7 +16,7 @@ use file_grammar::{FieldWalk, Part, Version};
 use obf_wire::Window;
 
 /// The whole grid.
-const GRID: Edges = Edges {
+pub(crate) const GRID: Edges = Edges {
     left: 0,
     top: 0,
     right: 3_600_000_000,

@@ -79,7 +79,7 @@ fn ask_address<'a>(
 }
 
 /// What was seen, with one address more.
-fn with_address<'a>(seen: BlockSeen<'a>, key: SortKey<'a>) -> BlockSeen<'a>
+pub(crate) fn with_address<'a>(seen: BlockSeen<'a>, key: SortKey<'a>) -> BlockSeen<'a>
     requires { seen.count < 18446744073709551615 }
     ensures { result ≡ record { count = seen.entry.count + 1; first = option_or seen.entry.first (Some key.entry); last = Some key.entry } }
 {

@@ -15,15 +15,18 @@ mod checked;
 mod exact;
 mod kept;
 mod languages;
+mod laws;
 mod layout;
 mod list_rules;
 mod one_pass;
 mod order;
 mod spans;
+mod straight;
 mod writing;
 
 pub use checked::check;
 pub use exact::check_exactly;
 pub use kept::{AddressesKept, EntryKept, ListKept};
+pub use laws::sound_addresses_fit;
 pub use one_pass::see;
 pub use writing::write;

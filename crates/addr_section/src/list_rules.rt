@@ -8,6 +8,7 @@ ghost use Rattle.boxed_exact.specs.Sides.{AreRising, beside};
 ghost use Rattle.addr_section.specs.Asked.{AreBlocksAsked, AreUnnamed, IsPairAsked, pair_facts};
 ghost use Rattle.addr_section.specs.Kept.{AreBlocksKept, AreEntriesKept, IsBlockKept, IsEntryKept, IsListKept};
 ghost use Rattle.addr_section.specs.Seen.{IsSortKeyOf};
+ghost use Rattle.addr_section.specs.Straight.{IsBlockNamed};
 
 use crate::address_rules::is_same_key;
 use crate::addresses::SortKey;
@@ -49,7 +50,7 @@ pub(crate) fn check_list(
 }
 
 /// Asks whether the keys of entries are UTF-8.
-fn check_entries(bytes: &[u8], entries: &[EntryKept], first: &mut FirstBreak)
+pub(crate) fn check_entries(bytes: &[u8], entries: &[EntryKept], first: &mut FirstBreak)
     ensures { (its : List KeyEntry) → AreEntriesKept bytes.now entries.now its → first.new ≡ earlier first.old (first_failing (flat_map entry_facts its)) }
 {
     let mut rest = entries;
@@ -123,7 +124,7 @@ fn first_at(blocks: &[Payload]) -> usize
 }
 
 /// The entries after the first one.
-fn behind(entries: &[EntryKept]) -> &[EntryKept]
+pub(crate) fn behind(entries: &[EntryKept]) -> &[EntryKept]
     ensures { result.now ≡ drop 1 entries.now }
 {
     match entries {
@@ -133,7 +134,7 @@ fn behind(entries: &[EntryKept]) -> &[EntryKept]
 }
 
 /// Asks of each of these entries where its block is; it has none.
-fn ask_unnamed(entries: &[EntryKept], first: &mut FirstBreak)
+pub(crate) fn ask_unnamed(entries: &[EntryKept], first: &mut FirstBreak)
     ensures { (its : List KeyEntry) (bytes : List ℕ) → AreEntriesKept bytes entries.now its → AreUnnamed its first.old first.new }
 {
     let mut rest = entries;
@@ -162,9 +163,24 @@ fn check_block<'a>(
 {
     let window = window_at(bytes, span);
     let seen = check_addresses(alloc, houses, version, window, before, around, first)?;
-    first.ask(span.at, FileKind::BadCount, is_count(seen.count));
-    ask_pair(bytes, start, entries, span.at, &seen, first);
+    ask_block(bytes, start, entries, span.at, &seen, first);
     Ok(seen)
+}
+
+/// Asks whether the block at an offset has 1 to 64 addresses, and is that of the first of the entries that are left.
+pub(crate) fn ask_block(
+    bytes: &[u8],
+    start: usize,
+    entries: &[EntryKept],
+    at: usize,
+    seen: &BlockSeen<'_>,
+    first: &mut FirstBreak,
+)
+    ensures { (keys : List KeyEntry) (it : KeyedBlock) → AreEntriesKept bytes.now entries.now keys → it.at ≡ at → seen.now.count ≡ length it.addresses → IsSortKeyOf seen.now.first (first_of it.addresses) → IsSortKeyOf seen.now.last (last_of it.addresses)
+        → IsBlockNamed start keys it first.old first.new }
+{
+    first.ask(at, FileKind::BadCount, is_count(seen.count));
+    ask_pair(bytes, start, entries, at, seen, first);
 }
 
 /// Asks whether the first of the entries that are left is that of the block at an offset; none is where none is left.

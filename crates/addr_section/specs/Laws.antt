@@ -1,0 +1,23 @@
+-- Laws of addresses.
+use Rattle.std.specs.Prelude.{◌≡◌, ℕ, List}
+use Rattle.std.specs.List.{AllByRecursion}
+use Rattle.live_model.specs.declared.addresses.AddrRec.{AddrRec}
+use Rattle.live_model.specs.Fits.{FitsAddress}
+use Rattle.obf_wire.specs.Fields.{Window}
+use Rattle.file_grammar.specs.declared.parts.Part.TheVariants.{Addresses}
+use Rattle.file_grammar.specs.declared.parts.Version.{Version}
+use Rattle.file_grammar.specs.AddressRules.{address_records_in, addresses_facts, addresses_of}
+use Rattle.file_grammar.specs.BoxRules.{Beside}
+use Rattle.file_grammar.specs.Facts.{AllHold}
+use Rattle.file_grammar.specs.Messages.{Fields, IsMessage}
+
+-- the bytes of the window are these addresses, in the order of their lists, and every rule holds of them
+pub record AreAddressesOf (version : Version) (beside : Beside) (w : Window) (records : List AddrRec) : Type 0 where
+  pub fields : Fields
+  pub form : IsMessage (Addresses version) w fields
+  pub sound : AllHold (addresses_facts beside (addresses_of fields))
+  pub records_are : records ≡ address_records_in (addresses_of fields)
+
+-- the records of a section, however it is packed, fit
+abbrev pub FittingLaw : Type 0
+FittingLaw = (version : Version) (beside : Beside) (w : Window) (records : List AddrRec) → AreAddressesOf version beside w records → AllByRecursion FitsAddress records
