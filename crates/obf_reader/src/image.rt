@@ -25,6 +25,7 @@ use crate::parts::{PartsRead, read_parts};
 use crate::reading::{first_break, kept_of, read_good};
 use crate::sections::KeptSections;
 use crate::spans::Sections;
+use boxed_exact::Payload;
 use boxed_read::Section;
 use file_grammar::{Part, Version, form};
 use live_model::ObjId;
@@ -160,6 +161,13 @@ impl Image {
     {
         let window = Window::new(self.bytes.as_slice(), self.sections.map.from, self.sections.map.to);
         Section::new(window, &self.kept.map)
+    }
+
+    /// Where the section of map records stands.
+    pub fn map_span(&self) -> Payload
+        ensures { result ≡ self.now.sections.map }
+    {
+        self.sections.map
     }
 
     /// How many records of all classes the file has.

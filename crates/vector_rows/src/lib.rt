@@ -19,4 +19,5 @@ pub use answer::Answer;
 pub use asked::{lines, rules, store};
 pub use fields::{Fields, RowError, is_remark};
 pub use records::{put_id, put_point, put_points, put_records, shape_name};
+pub use spelled::hexadecimal_of;
 pub use threads::shared;
