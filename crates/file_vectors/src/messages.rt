@@ -1,7 +1,7 @@
 //! The form of messages, their fields, and the first of several breaks.
 
 use crate::wire::{next_range, put_break, put_field};
-use file_grammar::{Boxed, FieldWalk, FirstBreak, Group, Part, form};
+use file_grammar::{Boxed, FieldWalk, FirstBreak, Group, Part, Version, form};
 use obf_wire::{FileKind, Window};
 use std::alloc::Global;
 use vector_rows::{Answer, Fields, RowError};
@@ -26,7 +26,7 @@ pub fn answer(
 /// The message that a word names.
 fn part(fields: &mut Fields<'_>) -> Result<Part, RowError> {
     match fields.word()? {
-        "file" => Ok(Part::File),
+        "file" => Ok(Part::File(Version::One)),
         "head" => Ok(Part::Head),
         "map" => Ok(Part::Boxes(Boxed::Map)),
         _ => Err(RowError::BadRow),
