@@ -8,6 +8,8 @@ use Rattle.obf_wire.specs.declared.file.FileKind.TheVariants as kinds
 use Rattle.std.specs.Fmt.{digits}
 use Rattle.std.specs.Str.{is_utf8, chars}
 use Rattle.std.proofs.Math.Utf8.{encode}
+use Rattle.caseless.proofs.Computing.{caseless}
+use Rattle.name_fold.specs.Keys.{key}
 use Rattle.text_pieces.specs.Lines.{lines_from, fields_from}
 use Rattle.text_pieces.specs.Numbers.{number_of}
 use Rattle.text_pieces.specs.Escapes.{character_of, unescaped, text_of, escaped}
@@ -94,7 +96,7 @@ with_address version lang =
     ∷ 164 ∷ 167 ∷ 218 ∷ 6 ∷ []) ++ lang ++ (22 ∷ wide 0) ++ drop 57 (base_with version version)
 
 address_of_first : file_break (with_address 1 []) ≡ None
-unfolding message_from field_at varint_in file_facts section_facts keyed_facts groups_facts lines_from is_utf8 chars encode
+unfolding message_from field_at varint_in file_facts section_facts keyed_facts groups_facts lines_from is_utf8 chars encode key caseless
 address_of_first = refl
 
 language_in_first : file_break (with_address 1 (58 ∷ 0 ∷ [])) ≡ broken 99 kinds.BadKey
@@ -102,7 +104,7 @@ unfolding message_from field_at varint_in
 language_in_first = refl
 
 address_of_second : file_break (with_address 2 (58 ∷ 0 ∷ [])) ≡ None
-unfolding message_from field_at varint_in file_facts section_facts keyed_facts groups_facts lines_from is_utf8 chars encode
+unfolding message_from field_at varint_in file_facts section_facts keyed_facts groups_facts lines_from is_utf8 chars encode key caseless
 address_of_second = refl
 
 no_language_in_second : file_break (with_address 2 []) ≡ broken 99 kinds.Short

@@ -1,9 +1,12 @@
-pub mod Sections
 pub mod Parts
+pub mod Classes
 pub mod RulesBack
 pub mod MarkSums
 pub mod MarkedSections
 pub mod RecordOrder
+pub mod KeyTexts
+pub mod BareAddresses
+pub mod PackedAddresses
 pub mod PackedFields
 pub mod PackedFiles
 pub mod Given

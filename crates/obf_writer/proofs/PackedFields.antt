@@ -1,143 +1,56 @@
 -- The fields of a packed file: each stands at its place, and their spelling is the bytes that are packed.
 use Rattle.std.proofs.Common.{◌≡◌, ℕ, ◌+◌, ◌-◌, ◌%◌, ◌^◌, ◌<◌, List, [], ◌++◌, length, Option, Some, None, refl, sym, ap, subst, ◌∙◌, arith, append_assoc}
-use Rattle.std.specs.Prelude.{slice_range}
 use Rattle.std.specs.List.{AllByRecursion}
-use Rattle.std.proofs.lemmas.List.{append-nil, length-append, take_all}
+use Rattle.std.proofs.lemmas.List.{append-nil, take_all}
+use Rattle.live_model.specs.declared.records.Rec.{Rec}
 use Rattle.live_model.specs.declared.rules.Rule.{Rule}
-use Rattle.live_model.specs.declared.records.MapRec.{MapRec}
 use Rattle.live_model.specs.Rules.{rules_text}
 use Rattle.obf_wire.specs.Varint.{varint}
-use Rattle.obf_wire.specs.Fields.{IsWindow, content, field_spelling, left_of, section}
+use Rattle.obf_wire.specs.Fields.{Window, IsWindow, content, field_spelling, left_of, number_field, part_of, section, short_field}
 use Rattle.file_grammar.specs.declared.parts.Boxed.TheVariants.{Map}
+use Rattle.file_grammar.specs.declared.parts.Version.TheVariants.{Two}
 use Rattle.file_grammar.specs.declared.parts.Part.{Part}
-use Rattle.file_grammar.specs.declared.parts.Part.TheVariants.{Boxes, File, Head, NoBoxes}
+use Rattle.file_grammar.specs.declared.parts.Part.TheVariants.{Addresses, Boxes, File, Head, Pois, Routing}
 use Rattle.file_grammar.specs.Tables.{content_of}
 use Rattle.file_grammar.specs.Messages.{Fields, has_number, has_bytes, has_message, spelling, inside, beyond, IsMessageFor, MayCome, HaveForm}
 use Rattle.file_grammar.specs.Files.{HeadNumbers, whole}
 use Rattle.file_grammar.proofs.HeadsByNumbers.{HasSmallNumbers}
 use Rattle.file_grammar.proofs.Ranges.{range-parts}
-use Rattle.obf_wire.specs.Fields.{number_field, short_field}
-use Rattle.map_section.specs.Packed.{packed_map}
 use Rattle.boxed_laws.specs.Bare.{Bare, no_more, a_number, some_numbers, a_message, bytes_of, stood, AreFormed}
 use Rattle.boxed_laws.proofs.BareFields.{spelled, formed}
-use Rattle.obf_writer.specs.PackedFile.{head_bytes, marks_bytes, no_addresses, no_roads, packed_file, steps_from}
+use Rattle.addr_section.specs.Packed.{packed_addresses}
+use Rattle.map_section.specs.Packed.{packed_map}
+use Rattle.poi_section.specs.Packed.{packed_pois}
+use Rattle.road_section.specs.Routing.{packed_routing}
+use Rattle.obf_writer.specs.Classes.{addresses_in, bans_in, maps_in, pois_in, roads_in}
+use Rattle.obf_writer.specs.PackedFile.{head_bytes, marks_bytes, packed_file, steps_from}
 
--- ---- the fields besides the map section
+-- ---- the fields besides the sections of records
 
 abbrev bare_head : HeadNumbers → Bare
 bare_head head = a_number 8 head.level (a_number 16 head.first (a_number 24 head.last no_more))
 
-abbrev bare_addresses : Bare
-bare_addresses = a_message 14 no_more (a_message 22 no_more no_more)
-
-abbrev bare_roads : Bare
-bare_roads = a_message 14 (a_message 14 no_more no_more) (a_message 22 (a_message 14 no_more no_more) no_more)
-
 abbrev bare_marks : List ℕ → Bare
 bare_marks marks = some_numbers 10 (steps_from 0 marks) no_more
 
--- what stands behind the map section
-abbrev bare_behind : List ℕ → Bare
-bare_behind marks = a_message 62 bare_addresses (a_message 70 no_more (a_message 78 bare_roads (a_message 134 (bare_marks marks) (a_number 256 1 no_more))))
+-- what stands behind the sections
+abbrev bare_end : List ℕ → Bare
+bare_end marks = a_message 134 (bare_marks marks) (a_number 256 2 no_more)
 
 head_is : (head : HeadNumbers) → bytes_of (bare_head head) ≡ head_bytes head
 head_is head =
     ap (λ (t : List ℕ). number_field 1 head.level ++ (number_field 2 head.first ++ t)) (append-nil (number_field 3 head.last))
     ∙ sym (append_assoc (number_field 1 head.level) (number_field 2 head.first) (number_field 3 head.last))
 
-addresses_are : bytes_of bare_addresses ≡ no_addresses
-addresses_are = ap (λ (t : List ℕ). section 1 [] ++ t) (append-nil (section 2 []))
+abbrev end_bytes : List ℕ → List ℕ
+end_bytes marks = section 16 (marks_bytes marks) ++ number_field 32 2
 
-no_boxes_are : bytes_of (a_message 14 no_more no_more) ≡ section 1 []
-no_boxes_are = append-nil (section 1 [])
+end_is : (marks : List ℕ) → bytes_of (bare_end marks) ≡ end_bytes marks
+end_is marks =
+    ap (λ (t : List ℕ). section 16 t ++ (number_field 32 2 ++ [])) (append-nil (marks_bytes marks))
+    ∙ ap (λ (t : List ℕ). section 16 (marks_bytes marks) ++ t) (append-nil (number_field 32 2))
 
-roads_are : bytes_of bare_roads ≡ no_roads
-roads_are =
-    ap (λ (t : List ℕ). section 1 t ++ (section 2 (bytes_of (a_message 14 no_more no_more)) ++ [])) no_boxes_are
-    ∙ ap (λ (t : List ℕ). section 1 (section 1 []) ++ (section 2 t ++ [])) no_boxes_are
-    ∙ ap (λ (t : List ℕ). section 1 (section 1 []) ++ t) (append-nil (section 2 (section 1 [])))
-
-marks_are : (marks : List ℕ) → bytes_of (bare_marks marks) ≡ marks_bytes marks
-marks_are marks = append-nil (marks_bytes marks)
-
-abbrev behind_map : List ℕ → List ℕ
-behind_map marks = section 7 no_addresses ++ (section 8 [] ++ (section 9 no_roads ++ (section 16 (marks_bytes marks) ++ number_field 32 1)))
-
-behind_is : (marks : List ℕ) → bytes_of (bare_behind marks) ≡ behind_map marks
-behind_is marks =
-    ap (λ (t : List ℕ). section 7 t ++ (section 8 [] ++ (section 9 (bytes_of bare_roads) ++ (section 16 (bytes_of (bare_marks marks)) ++ (number_field 32 1 ++ []))))) addresses_are
-    ∙ ap (λ (t : List ℕ). section 7 no_addresses ++ (section 8 [] ++ (section 9 t ++ (section 16 (bytes_of (bare_marks marks)) ++ (number_field 32 1 ++ []))))) roads_are
-    ∙ ap (λ (t : List ℕ). section 7 no_addresses ++ (section 8 [] ++ (section 9 no_roads ++ (section 16 t ++ (number_field 32 1 ++ []))))) (marks_are marks)
-    ∙ ap (λ (t : List ℕ). section 7 no_addresses ++ (section 8 [] ++ (section 9 no_roads ++ (section 16 (marks_bytes marks) ++ t)))) (append-nil (number_field 32 1))
-
--- ---- their places, where the map section has so many bytes
-
-module _ (head : HeadNumbers) (text : List ℕ) (size : ℕ) where
-  abbrev at_head : ℕ
-  at_head = inside 0 8 1
-
-  abbrev at_rules : ℕ
-  at_rules = beyond at_head 18 (length (bytes_of (bare_head head)))
-
-  abbrev at_map : ℕ
-  at_map = beyond at_rules 26 (length text)
-
-  -- where the map section begins, and what stands behind it
-  abbrev pub map_from : ℕ
-  map_from = inside at_map 54 size
-
-  abbrev pub map_to : ℕ
-  map_to = beyond at_map 54 size
-
-  -- all fields, with those of the map section
-  abbrev pub fields_with : Fields → List ℕ → Fields
-  fields_with map marks =
-      has_number 0 8 1 (has_message at_head 18 (stood (inside at_head 18 (length (bytes_of (bare_head head)))) (bare_head head))
-      (has_bytes at_rules 26 text (has_message at_map 54 map (stood map_to (bare_behind marks)))))
-
--- ---- their spelling
-
--- before the payload of the map section
-abbrev front : HeadNumbers → List ℕ → ℕ → List ℕ
-front head text size = number_field 1 1 ++ (short_field 2 (head_bytes head) ++ (short_field 3 text ++ (varint 54 ++ content 54 size)))
-
--- the bytes by what they spell one behind another
-file_parts : (head : HeadNumbers) (rules : List Rule) (marks : List ℕ) (records : List MapRec)
-    → packed_file head rules marks records ≡ number_field 1 1 ++ (short_field 2 (head_bytes head) ++ (short_field 3 (rules_text rules) ++ (section 6 (packed_map records) ++ behind_map marks)))
-unfolding packed_file
-file_parts head rules marks records = nine (number_field 1 1) (short_field 2 (head_bytes head)) (short_field 3 (rules_text rules)) (section 6 (packed_map records)) (section 7 no_addresses) (section 8 []) (section 9 no_roads) (section 16 (marks_bytes marks)) (number_field 32 1)
-  where
-    nine : (a b c d e f g h i : List ℕ) → a ++ b ++ c ++ d ++ e ++ f ++ g ++ h ++ i ≡ a ++ (b ++ (c ++ (d ++ (e ++ (f ++ (g ++ (h ++ i)))))))
-    nine a b c d e f g h i = simp append_assoc refl
-
-pub fields_spelled : (head : HeadNumbers) (rules : List Rule) (marks : List ℕ) (records : List MapRec) (map : Fields) → spelling map ≡ packed_map records
-    → spelling (fields_with head (rules_text rules) (length (packed_map records)) map marks) ≡ packed_file head rules marks records
-unfolding spelling
-fields_spelled head rules marks records map e =
-    let text : List ℕ = rules_text rules in
-    let size : ℕ = length (packed_map records) in
-    let behind : List ℕ = spelling (stood (map_to head text size) (bare_behind marks)) in
-    let here : ℕ = inside (at_head head text size) 18 (length (bytes_of (bare_head head))) in
-    ap (λ (t : List ℕ). number_field 1 1 ++ (short_field 2 t ++ (short_field 3 text ++ (field_spelling 54 (length (spelling map)) (spelling map) ++ behind)))) (spelled here (bare_head head) ∙ head_is head)
-    ∙ ap (λ (t : List ℕ). number_field 1 1 ++ (short_field 2 (head_bytes head) ++ (short_field 3 text ++ (section 6 t ++ behind)))) e
-    ∙ ap (λ (t : List ℕ). number_field 1 1 ++ (short_field 2 (head_bytes head) ++ (short_field 3 text ++ (section 6 (packed_map records) ++ t)))) (spelled (map_to head text size) (bare_behind marks) ∙ behind_is marks)
-    ∙ sym (file_parts head rules marks records)
-
--- ---- their form
-
-head_formed : (head : HeadNumbers) → HasSmallNumbers head → AreFormed Head None (bare_head head)
-head_formed head small = (refl, small.level, (refl, small.first, (refl, small.last, refl)))
-
-one_small : 1 < 2 ^ 64
-one_small = omega arith
-
-no_rest : (n : ℕ) → n % 1 ≡ 0
-no_rest n = omega arith
-
-behind_formed : (marks : List ℕ) → AllByRecursion (λ n. n < 2 ^ 64) (steps_from 0 marks) → AreFormed File (Some 54) (bare_behind marks)
-behind_formed marks small =
-    let boxes : AreFormed NoBoxes None (a_message 14 no_more no_more) = (refl, refl, refl) in
-    (refl, (refl, refl, (refl, refl, refl)), (refl, refl, (refl, (refl, boxes, (refl, boxes, refl)), (refl, (refl, (no_rest (length (steps_from 0 marks)), small), refl), (refl, one_small, refl)))))
+-- ---- a message among fields
 
 -- a message of so many bytes, and the fields behind it
 message_formed : (part : Part) (last : Option ℕ) (at key : ℕ) (inner rest : Fields) (size : ℕ) → size ≡ length (spelling inner) → MayCome part last key → IsMessageFor (λ sub. HaveForm sub None (inside at key size) inner) (content_of part key)
@@ -150,58 +63,209 @@ message_formed part last at key inner rest size e come form others = (
   subst (λ (k : ℕ). HaveForm part (Some key) (beyond at key k) rest) e others,
 )
 
-pub fields_formed : (head : HeadNumbers) (text : List ℕ) (size : ℕ) (map : Fields) (marks : List ℕ) → HasSmallNumbers head → AllByRecursion (λ n. n < 2 ^ 64) (steps_from 0 marks) → size ≡ length (spelling map)
-    → HaveForm (Boxes Map) None (map_from head text size) map → HaveForm File None 0 (fields_with head text size map marks)
-unfolding HaveForm
-fields_formed head text size map marks small steps e form =
-    let behind : Fields = stood (map_to head text size) (bare_behind marks) in
-    let long : ℕ = length (bytes_of (bare_head head)) in
-    let here : ℕ = inside (at_head head text size) 18 long in
-    let map_there : HaveForm File (Some 26) (at_map head text size) (has_message (at_map head text size) 54 map behind) =
-    message_formed File (Some 26) (at_map head text size) 54 map behind size e refl form (formed (bare_behind marks) File (Some 54) (map_to head text size) (behind_formed marks steps)) in
-    let head_there : HaveForm File (Some 8) (at_head head text size) (has_message (at_head head text size) 18 (stood here (bare_head head)) (has_bytes (at_rules head text size) 26 text (has_message (at_map head text size) 54 map behind))) =
-    message_formed File (Some 8) (at_head head text size) 18 (stood here (bare_head head)) (has_bytes (at_rules head text size) 26 text (has_message (at_map head text size) 54 map behind)) long
-    (ap length (sym (spelled here (bare_head head)))) refl (formed (bare_head head) Head None here (head_formed head small)) (refl, refl, refl, map_there) in
-    (refl, refl, refl, head_there)
+message_spelled : (at key : ℕ) (inner rest : Fields) (payload others : List ℕ) → spelling inner ≡ payload → spelling rest ≡ others → spelling (has_message at key inner rest) ≡ field_spelling key (length payload) payload ++ others
+unfolding spelling
+message_spelled at key inner rest payload others is after =
+    ap (λ (t : List ℕ). field_spelling key (length t) t ++ spelling rest) is ∙ ap (λ (t : List ℕ). field_spelling key (length payload) payload ++ t) after
 
--- ---- where the map section stands
+-- ---- where a payload stands
+
+-- the payload of a field and the fields behind it, where they stand
+pub record Stands (w : Window) (key : ℕ) (payload rest : List ℕ) : Type 0 where
+  pub window : IsWindow (part_of w.bytes (inside w.place key (length payload)) (beyond w.place key (length payload)))
+  pub left : left_of (part_of w.bytes (inside w.place key (length payload)) (beyond w.place key (length payload))) ≡ payload
+  pub others : IsWindow (part_of w.bytes (beyond w.place key (length payload)) w.end)
+  pub behind : left_of (part_of w.bytes (beyond w.place key (length payload)) w.end) ≡ rest
+
+stands : (w : Window) (key : ℕ) (payload rest : List ℕ) → IsWindow w → left_of w ≡ field_spelling key (length payload) payload ++ rest → Stands w key payload rest
+stands w key payload rest window left =
+    let head : List ℕ = varint key ++ content key (length payload) in
+    let first = range-parts w.bytes w.place w.end head (payload ++ rest) window.ordered window.within (left ∙ append_assoc head payload rest) in
+    let second = range-parts w.bytes (w.place + length head) w.end payload rest first.0 window.within first.2 in
+    record {
+      window = record { ordered = omega arith; within = omega (arith, second.0, window.within) };
+      left = second.1;
+      others = record { ordered = second.0; within = window.within };
+      behind = second.2;
+    }
 
 pub all_bytes : (bytes : List ℕ) → left_of (whole bytes) ≡ bytes
 all_bytes bytes = take_all (length bytes - 0) bytes (omega arith)
 
--- how long the parts before its payload are
-front_long : (head text : List ℕ) (size : ℕ)
-    → length (number_field 1 1 ++ (short_field 2 head ++ (short_field 3 text ++ (varint 54 ++ content 54 size)))) ≡ inside (beyond (beyond (inside 0 8 1) 18 (length head)) 26 (length text)) 54 size
-front_long head text size =
-    let a = length-append (number_field 1 1) (short_field 2 head ++ (short_field 3 text ++ (varint 54 ++ content 54 size))) in
-    let b = length-append (short_field 2 head) (short_field 3 text ++ (varint 54 ++ content 54 size)) in
-    let c = length-append (short_field 3 text) (varint 54 ++ content 54 size) in
-    let d = length-append (varint 8 ++ content 8 1) [] in
-    let f = length-append (varint 18 ++ content 18 (length head)) head in
-    let g = length-append (varint 26 ++ content 26 (length text)) text in
-    omega arith
+-- behind the version
+behind_version : (bytes rest : List ℕ) → bytes ≡ number_field 1 2 ++ rest
+    → IsWindow (part_of bytes (inside 0 8 2) (length bytes)) × (left_of (part_of bytes (inside 0 8 2) (length bytes)) ≡ rest)
+behind_version bytes rest is =
+    let first = range-parts bytes 0 (length bytes) (varint 8 ++ content 8 2) rest (omega arith) (omega arith)
+    (all_bytes bytes ∙ is ∙ ap (λ (t : List ℕ). t ++ rest) (append-nil (varint 8 ++ content 8 2))) in
+    (record { ordered = first.0; within = omega arith }, first.2)
 
--- these bytes stand in their part of the whole
-pub record IsThere (bytes : List ℕ) (from to : ℕ) (part : List ℕ) : Type 0 where
-  pub window : IsWindow (record { bytes = bytes; place = from; end = to })
-  pub left : left_of (record { bytes = bytes; place = from; end = to }) ≡ part
+-- ---- the sections of records, where they stand
 
-pub map_there : (head : HeadNumbers) (rules : List Rule) (marks : List ℕ) (records : List MapRec)
-    → IsThere (packed_file head rules marks records) (map_from head (rules_text rules) (length (packed_map records))) (map_to head (rules_text rules) (length (packed_map records))) (packed_map records)
-map_there head rules marks records =
-    let bytes : List ℕ = packed_file head rules marks records in
-    let text : List ℕ = rules_text rules in
-    let map : List ℕ = packed_map records in
-    let before : List ℕ = front head text (length map) in
-    let all : slice_range bytes 0 (length bytes) ≡ before ++ (map ++ behind_map marks) =
-    all_bytes bytes ∙ file_parts head rules marks records ∙ parted (number_field 1 1) (short_field 2 (head_bytes head)) (short_field 3 text) (varint 54 ++ content 54 (length map)) map (behind_map marks) in
-    let first = range-parts bytes 0 (length bytes) before (map ++ behind_map marks) (omega arith) (omega arith) all in
-    let second = range-parts bytes (0 + length before) (length bytes) map (behind_map marks) first.0 (omega arith) first.2 in
-    let long : length before ≡ inside (beyond (beyond (inside 0 8 1) 18 (length (head_bytes head))) 26 (length text)) 54 (length map) = front_long (head_bytes head) text (length map) in
-    let zero : 0 + length before ≡ length before = omega arith in
-    let place : 0 + length before ≡ map_from head text (length map) =
-    zero ∙ long ∙ ap (λ (n : ℕ). inside (beyond (beyond (inside 0 8 1) 18 n) 26 (length text)) 54 (length map)) (ap length (sym (head_is head))) in
-    subst (λ (n : ℕ). IsThere bytes n (n + length map) map) place (record { window = record { ordered = omega arith; within = second.0 }; left = second.1 })
-  where
-    parted : (a b c d e f : List ℕ) → a ++ (b ++ (c ++ (d ++ e ++ f))) ≡ (a ++ (b ++ (c ++ d))) ++ (e ++ f)
-    parted a b c d e f = simp append_assoc refl
+-- how long the parts of a file are
+module _ (head text map addresses pois roads : List ℕ) where
+  abbrev at_head : ℕ
+  at_head = inside 0 8 2
+
+  abbrev at_rules : ℕ
+  at_rules = beyond at_head 18 (length head)
+
+  abbrev at_map : ℕ
+  at_map = beyond at_rules 26 (length text)
+
+  abbrev at_addresses : ℕ
+  at_addresses = beyond at_map 54 (length map)
+
+  abbrev at_pois : ℕ
+  at_pois = beyond at_addresses 62 (length addresses)
+
+  abbrev at_roads : ℕ
+  at_roads = beyond at_pois 70 (length pois)
+
+  abbrev at_marks : ℕ
+  at_marks = beyond at_roads 78 (length roads)
+
+module _ (head text map addresses pois roads last : List ℕ) where
+  -- the bytes by what they spell, one field behind another
+  abbrev all_parts : List ℕ
+  all_parts =
+      number_field 1 2
+      ++ (short_field 2 head ++ (short_field 3 text ++ (section 6 map ++ (section 7 addresses ++ (section 8 pois ++ (section 9 roads ++ last))))))
+
+  -- each section stands so among the bytes
+  pub record SectionsStand (bytes : List ℕ) : Type 0 where
+    pub map_there : Stands (part_of bytes (at_map head text map addresses pois roads) (length bytes)) 54 map (section 7 addresses ++ (section 8 pois ++ (section 9 roads ++ last)))
+    pub addresses_there : Stands (part_of bytes (at_addresses head text map addresses pois roads) (length bytes)) 62 addresses (section 8 pois ++ (section 9 roads ++ last))
+    pub pois_there : Stands (part_of bytes (at_pois head text map addresses pois roads) (length bytes)) 70 pois (section 9 roads ++ last)
+    pub roads_there : Stands (part_of bytes (at_roads head text map addresses pois roads) (length bytes)) 78 roads last
+
+  sections_stand : (bytes : List ℕ) → bytes ≡ all_parts → SectionsStand bytes
+  sections_stand bytes is =
+      let v0 = behind_version bytes (short_field 2 head ++ (short_field 3 text ++ (section 6 map ++ (section 7 addresses ++ (section 8 pois ++ (section 9 roads ++ last)))))) is in
+      let v1 = stands (part_of bytes (at_head head text map addresses pois roads) (length bytes)) 18 head (short_field 3 text ++ (section 6 map ++ (section 7 addresses ++ (section 8 pois ++ (section 9 roads ++ last))))) v0.0 v0.1 in
+      let v2 = stands (part_of bytes (at_rules head text map addresses pois roads) (length bytes)) 26 text (section 6 map ++ (section 7 addresses ++ (section 8 pois ++ (section 9 roads ++ last)))) v1.others v1.behind in
+      let v3 = stands (part_of bytes (at_map head text map addresses pois roads) (length bytes)) 54 map (section 7 addresses ++ (section 8 pois ++ (section 9 roads ++ last))) v2.others v2.behind in
+      let v4 = stands (part_of bytes (at_addresses head text map addresses pois roads) (length bytes)) 62 addresses (section 8 pois ++ (section 9 roads ++ last)) v3.others v3.behind in
+      let v5 = stands (part_of bytes (at_pois head text map addresses pois roads) (length bytes)) 70 pois (section 9 roads ++ last) v4.others v4.behind in
+      let v6 = stands (part_of bytes (at_roads head text map addresses pois roads) (length bytes)) 78 roads last v5.others v5.behind in
+      record { map_there = v3; addresses_there = v4; pois_there = v5; roads_there = v6 }
+
+-- ---- a packed file
+
+module _ (head : HeadNumbers) (rules : List Rule) (marks : List ℕ) (records : List Rec) where
+  abbrev text_part : List ℕ
+  text_part = rules_text rules
+
+  abbrev pub map_part : List ℕ
+  map_part = packed_map (maps_in records)
+
+  abbrev pub addresses_part : List ℕ
+  addresses_part = packed_addresses (addresses_in records)
+
+  abbrev pub pois_part : List ℕ
+  pois_part = packed_pois (pois_in records)
+
+  abbrev pub roads_part : List ℕ
+  roads_part = packed_routing (roads_in records) (bans_in records)
+
+  -- the bytes by what they spell, one field behind another
+  file_parts : packed_file head rules marks records ≡ all_parts (head_bytes head) text_part map_part addresses_part pois_part roads_part (end_bytes marks)
+  unfolding packed_file
+  file_parts =
+      nine (number_field 1 2) (short_field 2 (head_bytes head)) (short_field 3 text_part) (section 6 map_part) (section 7 addresses_part) (section 8 pois_part) (section 9 roads_part)
+      (section 16 (marks_bytes marks)) (number_field 32 2)
+    where
+      nine : (a b c d e f g h i : List ℕ) → a ++ b ++ c ++ (d ++ e ++ f ++ g) ++ h ++ i ≡ a ++ (b ++ (c ++ (d ++ (e ++ (f ++ (g ++ (h ++ i)))))))
+      nine a b c d e f g h i = simp append_assoc refl
+
+  -- where each section begins, and where it ends
+  abbrev map_at : ℕ
+  map_at = at_map (head_bytes head) text_part map_part addresses_part pois_part roads_part
+
+  abbrev addresses_at : ℕ
+  addresses_at = at_addresses (head_bytes head) text_part map_part addresses_part pois_part roads_part
+
+  abbrev pois_at : ℕ
+  pois_at = at_pois (head_bytes head) text_part map_part addresses_part pois_part roads_part
+
+  abbrev roads_at : ℕ
+  roads_at = at_roads (head_bytes head) text_part map_part addresses_part pois_part roads_part
+
+  abbrev pub map_window : Window
+  map_window = part_of (packed_file head rules marks records) (inside map_at 54 (length map_part)) (beyond map_at 54 (length map_part))
+
+  abbrev pub addresses_window : Window
+  addresses_window = part_of (packed_file head rules marks records) (inside addresses_at 62 (length addresses_part)) (beyond addresses_at 62 (length addresses_part))
+
+  abbrev pub pois_window : Window
+  pois_window = part_of (packed_file head rules marks records) (inside pois_at 70 (length pois_part)) (beyond pois_at 70 (length pois_part))
+
+  abbrev pub roads_window : Window
+  roads_window = part_of (packed_file head rules marks records) (inside roads_at 78 (length roads_part)) (beyond roads_at 78 (length roads_part))
+
+  pub sections_there : SectionsStand (head_bytes head) text_part map_part addresses_part pois_part roads_part (end_bytes marks) (packed_file head rules marks records)
+  sections_there = sections_stand (head_bytes head) text_part map_part addresses_part pois_part roads_part (end_bytes marks) (packed_file head rules marks records) file_parts
+
+  module _ (map addresses pois roads : Fields) where
+    abbrev head_fields : Fields
+    head_fields = stood (inside (inside 0 8 2) 18 (length (bytes_of (bare_head head)))) (bare_head head)
+
+    abbrev end_fields : Fields
+    end_fields = stood (at_marks (head_bytes head) text_part map_part addresses_part pois_part roads_part) (bare_end marks)
+
+    -- the sections and what stands behind them
+    abbrev behind_map : Fields
+    behind_map = has_message addresses_at 62 addresses (has_message pois_at 70 pois (has_message roads_at 78 roads end_fields))
+
+    -- all fields, with those of the sections
+    abbrev pub fields_with : Fields
+    fields_with =
+        has_number 0 8 2 (has_message (inside 0 8 2) 18 head_fields (has_bytes (at_rules (head_bytes head) text_part map_part addresses_part pois_part roads_part) 26 text_part
+        (has_message map_at 54 map behind_map)))
+
+    module _ (map_is : spelling map ≡ map_part) (addresses_are : spelling addresses ≡ addresses_part) (pois_are : spelling pois ≡ pois_part) (roads_are : spelling roads ≡ roads_part) where
+      pub fields_spelled : spelling fields_with ≡ packed_file head rules marks records
+      unfolding spelling
+      fields_spelled =
+          let text : List ℕ = text_part in
+          let last : spelling end_fields ≡ end_bytes marks = spelled (at_marks (head_bytes head) text_part map_part addresses_part pois_part roads_part) (bare_end marks) ∙ end_is marks in
+          let roads_there = message_spelled roads_at 78 roads end_fields roads_part (end_bytes marks) roads_are last in
+          let behind_pois : Fields = has_message roads_at 78 roads end_fields in
+          let pois_there = message_spelled pois_at 70 pois behind_pois pois_part (section 9 roads_part ++ end_bytes marks) pois_are roads_there in
+          let addresses_there = message_spelled addresses_at 62 addresses (has_message pois_at 70 pois behind_pois) addresses_part (section 8 pois_part ++ (section 9 roads_part ++ end_bytes marks)) addresses_are pois_there in
+          let map_there = message_spelled map_at 54 map behind_map map_part (section 7 addresses_part ++ (section 8 pois_part ++ (section 9 roads_part ++ end_bytes marks))) map_is addresses_there in
+          let head_there = spelled (inside (inside 0 8 2) 18 (length (bytes_of (bare_head head)))) (bare_head head) ∙ head_is head in
+          ap (λ (t : List ℕ). number_field 1 2 ++ (short_field 2 t ++ (short_field 3 text ++ spelling (has_message map_at 54 map behind_map)))) head_there
+          ∙ ap (λ (t : List ℕ). number_field 1 2 ++ (short_field 2 (head_bytes head) ++ (short_field 3 text ++ t))) map_there
+          ∙ sym file_parts
+
+      module _ (small : HasSmallNumbers head) (steps : AllByRecursion (λ n. n < 2 ^ 64) (steps_from 0 marks)) where
+        head_formed : AreFormed Head None (bare_head head)
+        head_formed = (refl, small.level, (refl, small.first, (refl, small.last, refl)))
+
+        end_formed : AreFormed (File Two) (Some 78) (bare_end marks)
+        end_formed = (refl, (refl, (no_rest (length (steps_from 0 marks)), steps), refl), (refl, small_two, refl))
+          where
+            no_rest : (n : ℕ) → n % 1 ≡ 0
+            no_rest n = omega arith
+
+            small_two : 2 < 2 ^ 64
+            small_two = omega arith
+
+        pub fields_formed : HaveForm (Boxes Map) None (inside map_at 54 (length map_part)) map → HaveForm (Addresses Two) None (inside addresses_at 62 (length addresses_part)) addresses
+            → HaveForm Pois None (inside pois_at 70 (length pois_part)) pois → HaveForm Routing None (inside roads_at 78 (length roads_part)) roads → HaveForm (File Two) None 0 fields_with
+        unfolding HaveForm
+        fields_formed of_map of_addresses of_pois of_roads =
+            let file : Part = File Two in
+            let here : ℕ = inside (inside 0 8 2) 18 (length (bytes_of (bare_head head))) in
+            let last = formed (bare_end marks) file (Some 78) (at_marks (head_bytes head) text_part map_part addresses_part pois_part roads_part) end_formed in
+            let roads_there = message_formed file (Some 70) roads_at 78 roads end_fields (length roads_part) (ap length (sym roads_are)) refl of_roads last in
+            let pois_there = message_formed file (Some 62) pois_at 70 pois (has_message roads_at 78 roads end_fields) (length pois_part) (ap length (sym pois_are)) refl of_pois roads_there in
+            let addresses_there = message_formed file (Some 54) addresses_at 62 addresses (has_message pois_at 70 pois (has_message roads_at 78 roads end_fields)) (length addresses_part) (ap length (sym addresses_are)) refl of_addresses pois_there in
+            let map_there = message_formed file (Some 26) map_at 54 map behind_map (length map_part) (ap length (sym map_is)) refl of_map addresses_there in
+            let rules_at : ℕ = at_rules (head_bytes head) text_part map_part addresses_part pois_part roads_part in
+            let rules_there : HaveForm file (Some 18) rules_at (has_bytes rules_at 26 text_part (has_message map_at 54 map behind_map)) = (refl, refl, refl, map_there) in
+            let long : length (head_bytes head) ≡ length (spelling head_fields) = ap length (sym (spelled here (bare_head head) ∙ head_is head)) in
+            let head_there : HaveForm Head None (inside (inside 0 8 2) 18 (length (head_bytes head))) head_fields =
+            subst (λ (n : ℕ). HaveForm Head None (inside (inside 0 8 2) 18 n) head_fields) (ap length (head_is head)) (formed (bare_head head) Head None here head_formed) in
+            (refl, refl, refl, message_formed file (Some 8) (inside 0 8 2) 18 head_fields (has_bytes rules_at 26 text_part (has_message map_at 54 map behind_map)) (length (head_bytes head)) long refl head_there rules_there)

@@ -5,19 +5,19 @@ ghost use Rattle.std.specs.List.{AllByRecursion};
 ghost use Rattle.std.specs.List.Sorted.{IsSorted};
 ghost use Rattle.std.specs.Ordering.{nat_cmp};
 ghost use Rattle.live_model.specs.declared.levels.Level.TheVariants.{Base};
-ghost use Rattle.live_model.specs.Fits.{FitsMap};
+ghost use Rattle.live_model.specs.Fits.{FitsRules};
 ghost use Rattle.live_model.specs.Ids.{ordinal};
 ghost use Rattle.ordered_lists.specs.Ordered.{IsRisingBy};
-ghost use Rattle.live_model.specs.Records.{map_cmp};
+ghost use Rattle.live_model.specs.Records.{record_cmp, record_id};
 ghost use Rattle.stamp_core.specs.Heads.{IsGoodHead};
 ghost use Rattle.stamp_core.specs.Hours.{IsCivilHour};
 ghost use Rattle.file_grammar.specs.Files.{head_numbers, hour_number, is_head};
-ghost use Rattle.obf_wire.specs.Fields.{section, number_field, short_field};
-ghost use Rattle.obf_writer.specs.PackedFile.{IsPackedFile, head_bytes, no_addresses, no_roads};
+ghost use Rattle.obf_wire.specs.Fields.{number_field, short_field};
+ghost use Rattle.obf_writer.specs.PackedFile.{IsPackedFile, head_bytes};
 
 use crate::marks::marks_bytes;
-use boxed_write::borrowed;
-use live_model::{MapRec, ObjId};
+use crate::sections::{put_sections, sections_of};
+use live_model::{ObjId, Rec};
 use obf_wire::Out;
 use owned_data::Mem;
 use stamp_core::{Head, Stamp};
@@ -25,7 +25,7 @@ use std::alloc::Global;
 use tag_rules::Rules;
 
 /// The version of the format, which stands at the beginning and again at the end.
-const VERSION: u64 = 1;
+const VERSION: u64 = 2;
 
 /// The numbers of the fields of a file.
 const VERSION_FIELD: u64 = 1;
@@ -33,14 +33,6 @@ const VERSION_FIELD: u64 = 1;
 const HEAD_FIELD: u64 = 2;
 
 const RULES_FIELD: u64 = 3;
-
-const MAP_FIELD: u64 = 6;
-
-const ADDRESSES_FIELD: u64 = 7;
-
-const POIS_FIELD: u64 = 8;
-
-const ROADS_FIELD: u64 = 9;
 
 const MARKS_FIELD: u64 = 16;
 
@@ -53,17 +45,8 @@ const FIRST_FIELD: u64 = 2;
 
 const LAST_FIELD: u64 = 3;
 
-/// The section of addresses without any: no names, and no houses.
-const NO_ADDRESSES: [u8; 18] = [14, 0, 0, 0, 0, 0, 0, 0, 0, 22, 0, 0, 0, 0, 0, 0, 0, 0];
-
-/// The section of roads without any: no roads and no restrictions, each with an empty tree.
-const NO_ROADS: [u8; 36] = [
-    14, 0, 0, 0, 0, 0, 0, 0, 9, 14, 0, 0, 0, 0, 0, 0, 0, 0, 22, 0, 0, 0, 0, 0, 0, 0, 9, 14, 0, 0,
-    0, 0, 0, 0, 0, 0,
-];
-
-/// The bytes of a file of these parts: what it covers, the rules, the marks, which are the objects that it says something
-/// of, and the records. It takes map records alone: the sections of other records are written empty.
+/// The bytes of a file of these parts, in the second version of the format: what it covers, the rules, the marks, which are the
+/// objects that it says something of, and the records of all classes.
 ///
 /// The head is good. The marks rise strictly in the order of ids, and a base has none. The records stand in the order of
 /// records, equal ones side by side, and fit the rules; above a base each is of an object with a mark.
@@ -73,25 +56,22 @@ pub fn write_file(
     head: &Head,
     rules: &Rules,
     marks: &[ObjId],
-    records: &[MapRec],
+    records: &[Rec],
 ) -> Mem<Vec<u8>>
     requires good { IsGoodHead head.now }
     requires rise { IsRisingBy nat_cmp ordinal marks.now }
     requires base { head.now.level ≡ Base → marks.now ≡ [] }
-    requires sorted { IsSorted map_cmp records.now }
-    requires fit { AllByRecursion (FitsMap rules.now) records.now }
-    requires marked { head.now.level ≢ Base → AllByRecursion (λ m. Contains marks.now m.id) records.now }
+    requires sorted { IsSorted record_cmp records.now }
+    requires fit { FitsRules rules.now records.now }
+    requires marked { head.now.level ≢ Base → AllByRecursion (λ r. Contains marks.now (record_id r)) records.now }
     ensures { IfOk result (λ bytes. IsPackedFile bytes.items (head_numbers head.now) rules.now (map ordinal marks.now) records.now) }
 {
-    let mut map = Vec::new(alloc);
-    let drawn = borrowed(alloc, records)?;
-    map_section::write(alloc, drawn.as_slice(), rules, &mut map)?;
+    let sections = sections_of(alloc, rules, records)?;
     let marks = marks_bytes(alloc, marks)?;
     let head = head_bytes(alloc, head)?;
     let mut out = Out::new(alloc);
     put_front(&head, rules.text(), &mut out)?;
-    out.put_section(MAP_FIELD, &map)?;
-    put_empty_sections(&mut out)?;
+    put_sections(&sections, &mut out)?;
     out.put_section(MARKS_FIELD, &marks)?;
     out.put_number(LAST_VERSION_FIELD, VERSION)?;
     Ok(out.finish())
@@ -99,7 +79,7 @@ pub fn write_file(
 
 /// Appends the version, the head and the text of the rules.
 fn put_front(head: &[u8], rules: &[u8], out: &mut Out) -> Mem<()>
-    ensures { OnOk result (out.new ≡ out.old ++ number_field 1 1 ++ short_field 2 head.now ++ short_field 3 rules.now) }
+    ensures { OnOk result (out.new ≡ out.old ++ number_field 1 2 ++ short_field 2 head.now ++ short_field 3 rules.now) }
 {
     out.put_number(VERSION_FIELD, VERSION)?;
     out.put_short(HEAD_FIELD, head)?;
@@ -127,13 +107,4 @@ fn hour_number(hour: Option<Stamp>) -> u64
         Some(stamp) => stamp.number(),
         None => 0,
     }
-}
-
-/// Appends the sections of addresses, points of interest and roads, which are empty.
-fn put_empty_sections(out: &mut Out) -> Mem<()>
-    ensures { OnOk result (out.new ≡ out.old ++ section 7 no_addresses ++ section 8 [] ++ section 9 no_roads) }
-{
-    out.put_section(ADDRESSES_FIELD, &NO_ADDRESSES)?;
-    out.put_section(POIS_FIELD, &[])?;
-    out.put_section(ROADS_FIELD, &NO_ROADS)
 }
