@@ -9,8 +9,8 @@ use Rattle.live_model.specs.declared.ids.Kind.{Kind}
 use Rattle.live_model.specs.declared.ids.Kind.TheVariants.{Node, Way, Relation}
 use Rattle.live_model.specs.declared.rules.Rule.{Rule}
 use Rattle.live_model.specs.Ids.{Id, IsId, ordinal, rank}
-use Rattle.file_grammar.specs.BoxRules.{is_ordinal, section_facts}
-use Rattle.file_grammar.specs.Facts.{AllHold, Fact, first_failing}
+use Rattle.file_grammar.specs.BoxRules.{is_ordinal}
+use Rattle.file_grammar.specs.Facts.{AllHold, first_failing}
 use Rattle.file_grammar.specs.Files.{FileParts, beside, break_in_file, facts_in, file_break, file_facts, file_in, file_records, is_head, rise_strictly, rules_in, section_records, version_of, whole}
 use Rattle.file_grammar.specs.declared.parts.Version.{Version}
 use Rattle.file_grammar.specs.declared.parts.Part.TheVariants.{File}

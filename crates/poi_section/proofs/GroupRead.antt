@@ -1,24 +1,22 @@
 -- Groups of points of interest of which a check left where they stand.
-use Rattle.std.proofs.Common.{◌≡◌, ℕ, zero, suc, ◌<◌, ◌≤◌, ◌+◌, Bool, true, List, [], ◌∷◌, ◌++◌, length, map, Option, Some, None, Ok, Result, refl, sym, ap, subst, ◌∙◌, length-append, arith}
-use Rattle.std.specs.Prelude.{flat_map, slice_get, slice_range, IsUtf8, ◌||◌, ◌&&◌, nat_le, ◌==◌}
+use Rattle.std.proofs.Common.{◌≡◌, ℕ, zero, suc, ◌<◌, ◌≤◌, true, List, [], ◌∷◌, length, map, Option, Some, None, Ok, refl, sym, ap, subst, ◌∙◌, arith}
+use Rattle.std.specs.Prelude.{flat_map, slice_get, slice_range, IsUtf8}
 use Rattle.std.specs.List.{AllByRecursion, list_all}
 use Rattle.std.proofs.lemmas.Bool.{and_parts}
 use Rattle.std.proofs.lemmas.Bool.Decides.{nat_tests}
 use Rattle.live_model.specs.declared.records.PoiRec.{PoiRec}
 use Rattle.live_model.specs.Rules.{is_category, is_category_byte}
 use Rattle.live_model.proofs.CanonicalBytes.{ascii_utf8}
-use Rattle.obf_wire.specs.declared.file.FileBreak.{FileBreak}
 use Rattle.obf_wire.specs.Fields.{Window, part_of}
 use Rattle.file_grammar.specs.declared.parts.Boxed.TheVariants.{Poi}
 use Rattle.file_grammar.specs.declared.parts.Part.TheVariants.{Pois}
 use Rattle.file_grammar.specs.BoxRules.{Beside, with_before}
 use Rattle.file_grammar.specs.Facts.{AllHold, Fact}
 use Rattle.file_grammar.specs.Messages.{Fields}
-use Rattle.file_grammar.specs.PoiRules.{Group, group_facts, group_records, groups_facts, groups_in, poi_boxing, poi_read}
+use Rattle.file_grammar.specs.PoiRules.{Group, group_facts, groups_facts, groups_in, poi_boxing, poi_read}
 use Rattle.file_grammar.specs.Readings.{message_at}
 use Rattle.file_grammar.specs.Sections.{Section}
 use Rattle.boxed_laws.proofs.FittingRecords.{Holds, all_before, all_behind}
-use Rattle.boxed_read.specs.Steps.{joined}
 use Rattle.boxed_read.proofs.SectionRead.{section_read}
 use Rattle.poi_section.specs.declared.kept.GroupKept.{GroupKept}
 use Rattle.poi_section.specs.declared.kept.PoisKept.{PoisKept}

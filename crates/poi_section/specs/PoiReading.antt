@@ -1,5 +1,4 @@
 -- How points of interest are read.
-use Rattle.std.specs.Prelude.{ℕ, List}
 use Rattle.std.proofs.Common.{refl}
 use Rattle.std.proofs.lemmas.Bool.{and_parts}
 use Rattle.live_model.specs.declared.records.PoiRec.{PoiRec}
