@@ -1,5 +1,5 @@
 -- Laws of addresses.
-use Rattle.std.specs.Prelude.{◌≡◌, ℕ, List}
+use Rattle.std.specs.Prelude.{◌≡◌, List}
 use Rattle.std.specs.List.{AllByRecursion}
 use Rattle.live_model.specs.declared.addresses.AddrRec.{AddrRec}
 use Rattle.live_model.specs.Fits.{FitsAddress}
