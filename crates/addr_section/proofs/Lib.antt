@@ -2,6 +2,7 @@ pub mod AddressAsking
 pub mod AddressShape
 pub mod Fitting
 pub mod Good
+pub mod KeptLists
 pub mod ListAsking
 pub mod ListShape
 pub mod OnePass

@@ -27,6 +27,6 @@ mod writing;
 pub use checked::check;
 pub use exact::check_exactly;
 pub use kept::{AddressesKept, EntryKept, ListKept};
-pub use laws::sound_addresses_fit;
+pub use laws::{lists_keep_each_record, sound_addresses_fit};
 pub use one_pass::see;
 pub use writing::write;
