@@ -1,5 +1,6 @@
 pub mod AddressAsking
 pub mod AddressShape
+pub mod AnyOrder
 pub mod Fitting
 pub mod Good
 pub mod KeptLists

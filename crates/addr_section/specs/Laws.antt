@@ -12,7 +12,7 @@ use Rattle.file_grammar.specs.BoxRules.{Beside}
 use Rattle.file_grammar.specs.Facts.{AllHold}
 use Rattle.file_grammar.specs.Messages.{Fields, IsMessage}
 use Rattle.boxed_write.specs.Packed.{sorted_by}
-use Rattle.addr_section.specs.Packed.{is_listed, keyed_cmp}
+use Rattle.addr_section.specs.Packed.{is_listed, keyed_cmp, packed_addresses}
 
 -- the bytes of the window are these addresses, in the order of their lists, and every rule holds of them
 pub record AreAddressesOf (version : Version) (beside : Beside) (w : Window) (records : List AddrRec) : Type 0 where
@@ -32,3 +32,7 @@ in_lists records = sorted_by keyed_cmp (filter (is_listed false) records) ++ sor
 -- each record stands in one of the lists, as often as it was given
 abbrev pub KeptLaw : Type 0
 KeptLaw = (records : List AddrRec) → IsPermutation records (in_lists records)
+
+-- the order in which records are given does not matter
+abbrev pub AnyOrderLaw : Type 0
+AnyOrderLaw = (a b : List AddrRec) → AllByRecursion FitsAddress a → IsPermutation a b → packed_addresses a ≡ packed_addresses b
