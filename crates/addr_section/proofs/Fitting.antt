@@ -1,20 +1,19 @@
 -- The records of a sound section of addresses fit.
-use Rattle.std.proofs.Common.{◌≡◌, ◌≢◌, ℕ, zero, suc, ◌/◌, ◌^◌, ◌≤◌, Bool, true, false, List, [], ◌∷◌, ◌++◌, flat_map, length, map, Option, Some, None, refl, sym, ap, subst, ◌∙◌, arith}
-use Rattle.std.specs.Prelude.{◌&&◌, ◌||◌, not, ◌==◌, IsUtf8, nat_le, unwrap_or}
+use Rattle.std.proofs.Common.{◌≡◌, ◌≢◌, ℕ, zero, suc, ◌/◌, ◌^◌, ◌≤◌, Bool, true, false, List, [], ◌∷◌, ◌++◌, flat_map, length, map, Option, Some, None, refl, sym, ap, subst, arith}
+use Rattle.std.specs.Prelude.{◌&&◌, ◌||◌, not, ◌==◌, IsUtf8, unwrap_or}
 use Rattle.std.specs.List.{AllByRecursion, list_all}
 use Rattle.std.specs.Option.{option_map}
 use Rattle.std.specs.Str.{is_utf8}
 use Rattle.std.proofs.lemmas.Bool.{and_parts, eqb-true}
 use Rattle.std.proofs.lemmas.Bool.Decides.{nat_tests}
 use Rattle.std.proofs.lemmas.Str.{IsUtf8-from_is_utf8}
-use Rattle.live_model.specs.declared.addresses.AddrRec.{AddrRec}
 use Rattle.live_model.specs.declared.ids.Kind.TheVariants.{Relation, Way}
 use Rattle.live_model.specs.Fits.{FitsAddress, IsAddressed, IsLanguageFor, IsNumber}
 use Rattle.live_model.specs.Points.{IsInGrid}
 use Rattle.live_model.specs.Records.{is_empty, is_language}
 use Rattle.coord_delta.specs.Steps.{Place, places}
 use Rattle.file_grammar.specs.AddressRules.{Address, KeyedList, address_facts, address_record_of, addresses_in, addresses_of, entry_facts, entry_pairs, first_at, is_addressed, is_kind_in, is_number_for, keyed_block_fact, keyed_facts, kind_from, lang_facts, list_records}
-use Rattle.file_grammar.specs.BoxRules.{Beside, is_on_grid, is_ordinal, with_before}
+use Rattle.file_grammar.specs.BoxRules.{Beside, is_on_grid, is_ordinal}
 use Rattle.file_grammar.specs.Facts.{AllHold, Fact}
 use Rattle.file_grammar.specs.RecordRules.{is_one_location, only_point}
 use Rattle.file_grammar.specs.Sections.{Placed, object_kind}

@@ -1,7 +1,9 @@
 pub mod AddressAsking
 pub mod AddressShape
+pub mod AnyOrder
 pub mod Fitting
 pub mod Good
+pub mod KeptLists
 pub mod ListAsking
 pub mod ListShape
 pub mod OnePass

@@ -1,5 +1,5 @@
 -- Lists in one pass: what was seen so far is one with what is left.
-use Rattle.std.proofs.Common.{◌≡◌, ◌≤◌, ℕ, ◌+◌, Bool, true, false, List, [], ◌∷◌, ◌++◌, drop, filter_map, flat_map, length, map, Option, Some, None, Result, Ok, refl, sym, ap, subst, ◌∙◌, arith, append_assoc, length-append}
+use Rattle.std.proofs.Common.{◌≡◌, ◌≤◌, ℕ, ◌+◌, Bool, true, List, [], ◌∷◌, ◌++◌, drop, flat_map, length, Option, Some, None, Result, Ok, refl, sym, ap, subst, ◌∙◌, arith, append_assoc, length-append}
 use Rattle.std.specs.Option.{option_or}
 use Rattle.std.proofs.lemmas.List.{append-nil}
 use Rattle.obf_wire.specs.declared.field.Field.{Field}
@@ -8,7 +8,7 @@ use Rattle.obf_wire.specs.Fields.{Window, IsWindow, is_among, part_of}
 use Rattle.obf_wire.specs.KnownKeys.{StandsFirst}
 use Rattle.file_grammar.specs.declared.parts.Part.TheVariants.{Address as AddressPart, Addresses as AddressesPart, KeyEntry as EntryPart, Keyed as ListPart, KeyedBlock as BlockPart}
 use Rattle.file_grammar.specs.declared.parts.Version.{Version}
-use Rattle.file_grammar.specs.AddressRules.{Address, KeyEntry, KeyedBlock, KeyedList, address_facts, address_with, addresses_in, entry_facts, entry_with, first_at, first_of, keyed_facts, keyed_list, last_of}
+use Rattle.file_grammar.specs.AddressRules.{Address, KeyEntry, KeyedBlock, KeyedList, address_facts, address_with, addresses_in, entry_facts, first_at, first_of, keyed_facts, keyed_list, last_of}
 use Rattle.file_grammar.specs.BoxRules.{Beside}
 use Rattle.file_grammar.specs.Facts.{Fact, earlier, first_failing}
 use Rattle.file_grammar.specs.Messages.{Fields, ends, has_message}
@@ -22,10 +22,10 @@ use Rattle.addr_section.specs.declared.addresses.SortKey.{SortKey}
 use Rattle.addr_section.specs.declared.block_rules.BlockSeen.{BlockSeen}
 use Rattle.addr_section.specs.declared.kept.EntryKept.{EntryKept}
 use Rattle.addr_section.specs.declared.kept.ListKept.{ListKept}
-use Rattle.addr_section.specs.Asked.{AreBlocksAsked, AreUnnamed, IsAddressAsked, IsBlockAsked, IsPairAsked, all_facts, block_facts, blocks_facts, pair_facts}
+use Rattle.addr_section.specs.Asked.{AreBlocksAsked, AreUnnamed, IsAddressAsked, IsBlockAsked, IsPairAsked, all_facts, block_facts, blocks_facts}
 use Rattle.addr_section.specs.Kept.{AreBlocksKept, AreEntriesKept, IsListKept, addresses_within}
 use Rattle.addr_section.specs.Seen.{IsSortKeyOf}
-use Rattle.addr_section.specs.Straight.{AreBlocksRead, AreEntriesRead, IsAddressRead, IsBlockNamed, IsBlockRead, IsEntryRead, IsListRead}
+use Rattle.addr_section.specs.Straight.{AreBlocksRead, AreEntriesRead, IsBlockNamed, IsBlockRead, IsEntryRead, IsListRead}
 use Rattle.addr_section.proofs.AddressAsking.{first_joined_key, last_joined}
 use Rattle.addr_section.proofs.ListAsking.{block_first, facts_joined, keys_on, list_asked, no_blocks, pair_asked}
 use Rattle.addr_section.proofs.ListShape.{block_more, entry_more, kept_one}

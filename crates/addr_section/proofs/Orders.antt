@@ -34,7 +34,7 @@ one_address : (a b : AddrRec) → Addr a ≡ Addr b → a ≡ b
 one_address a b e = cc
 
 -- addresses that tie are one
-same_keyed : (a b : AddrRec) → FitsAddress a → FitsAddress b → keyed_cmp a b ≡ Equal → a ≡ b
+pub same_keyed : (a b : AddrRec) → FitsAddress a → FitsAddress b → keyed_cmp a b ≡ Equal → a ≡ b
 same_keyed a b good_a good_b e =
     let rest = then_equal (text_cmp (key a.name) (key b.name)) (ordering_then (nat_cmp (address_rank a.kind) (address_rank b.kind)) (record_cmp (Addr a) (Addr b))) e in
     one_address a b (same_record (Addr a) (Addr b) good_a.id good_b.id (then_equal (nat_cmp (address_rank a.kind) (address_rank b.kind)) (record_cmp (Addr a) (Addr b)) rest))

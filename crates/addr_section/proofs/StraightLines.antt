@@ -1,9 +1,7 @@
 -- Addresses and entries, field by field in a straight line.
-use Rattle.std.proofs.Common.{◌≡◌, ◌≤◌, ℕ, ◌+◌, true, List, length, Option, Some, None, Result, Ok, refl, sym, ap, subst, ◌∙◌, arith}
+use Rattle.std.proofs.Common.{◌≡◌, ℕ, true, List, Option, Some, None, Result, Ok, refl, sym, ap, subst, ◌∙◌, arith}
 use Rattle.std.specs.Prelude.{slice_range}
-use Rattle.std.specs.List.{list_all}
 use Rattle.live_model.specs.declared.points.Rect.{Rect}
-use Rattle.coord_delta.specs.Steps.{places}
 use Rattle.obf_wire.specs.declared.field.Field.{Field}
 use Rattle.obf_wire.specs.declared.file.FileBreak.{FileBreak}
 use Rattle.obf_wire.specs.Fields.{Window, IsWindow, part_of}
@@ -12,8 +10,7 @@ use Rattle.file_grammar.specs.declared.parts.Group.TheVariants.{Pair}
 use Rattle.file_grammar.specs.declared.parts.Part.TheVariants.{Address as AddressPart, KeyEntry as EntryPart}
 use Rattle.file_grammar.specs.declared.parts.Version.{Version}
 use Rattle.file_grammar.specs.declared.parts.Version.TheVariants.{One, Two}
-use Rattle.file_grammar.specs.AddressRules.{KeyEntry, entry_with}
-use Rattle.file_grammar.specs.BoxRules.{is_on_grid}
+use Rattle.file_grammar.specs.AddressRules.{KeyEntry}
 use Rattle.file_grammar.specs.Messages.{Fields, ends, has_bytes, has_number, has_numbers}
 use Rattle.file_grammar.specs.Readings.{message_at, message_from}
 use Rattle.file_grammar.specs.Sections.{Placed, placed}
@@ -23,7 +20,6 @@ use Rattle.addr_section.specs.declared.addresses.AddressSeen.{AddressSeen}
 use Rattle.addr_section.specs.declared.addresses.TextSeen.{TextSeen}
 use Rattle.addr_section.specs.declared.kept.EntryKept.{EntryKept}
 use Rattle.addr_section.specs.Kept.{IsEntryKept}
-use Rattle.addr_section.specs.Seen.{IsRead, lang_of}
 use Rattle.addr_section.specs.Straight.{IsAddressRead, IsEntryRead, IsLangRead}
 use Rattle.addr_section.proofs.AddressShape.{IsAddressMessage, address_read}
 

@@ -1,5 +1,5 @@
 -- Addresses, entries and blocks that are read in a straight line.
-use Rattle.std.specs.Prelude.{◌≡◌, ℕ, List, [], ◌∷◌, ◌++◌, Bool, length, Option, None, Some, Ok}
+use Rattle.std.specs.Prelude.{◌≡◌, ℕ, List, [], ◌++◌, Bool, length, Option, Some, Ok}
 use Rattle.obf_wire.specs.declared.file.FileBreak.{FileBreak}
 use Rattle.obf_wire.specs.Fields.{Window}
 use Rattle.file_grammar.specs.declared.parts.Part.TheVariants.{Address as AddressPart, KeyEntry as EntryPart, Keyed as ListPart, KeyedBlock as BlockPart}

@@ -24,14 +24,14 @@ pub(crate) const GRID: Edges = Edges {
 };
 
 /// A text, and the offset of its field.
-#[derive(Clone, Copy, Debug)]
+#[derive(Clone, Copy)]
 pub(crate) struct TextSeen<'a> {
     pub(crate) at: usize,
     pub(crate) text: &'a [u8],
 }
 
 /// An address as it was seen: the offset of its field, and its fields. It has a language in a file of the second version alone.
-#[derive(Clone, Copy, Debug)]
+#[derive(Clone, Copy)]
 pub(crate) struct AddressSeen<'a> {
     pub(crate) at: usize,
     pub(crate) ordinal: Number,
@@ -45,7 +45,7 @@ pub(crate) struct AddressSeen<'a> {
 }
 
 /// What the order of addresses goes by.
-#[derive(Clone, Copy, Debug)]
+#[derive(Clone, Copy)]
 pub(crate) struct SortKey<'a> {
     pub(crate) key: &'a [u8],
     pub(crate) kind: u64,

@@ -21,7 +21,7 @@ use owned_data::Mem;
 use std::alloc::Global;
 
 /// What was seen of a block: how many addresses it has, and what the order goes by of the first and the last of them.
-#[derive(Clone, Copy, Debug)]
+#[derive(Clone, Copy)]
 pub(crate) struct BlockSeen<'a> {
     pub(crate) count: usize,
     pub(crate) first: Option<SortKey<'a>>,

@@ -21,7 +21,7 @@ use owned_data::Mem;
 use std::alloc::Global;
 
 /// Where the two lists of a section stand.
-#[derive(Debug, Drop)]
+#[derive(Drop)]
 pub(crate) struct Lists {
     pub(crate) names: ListKept,
     pub(crate) houses: ListKept,

@@ -4,8 +4,8 @@ ghost use Rattle.std.specs.Prelude.{◌≡◌};
 
 use boxed_exact::{Number, Payload};
 
-/// An entry of a list: the offset of its field, where the first and the last key of its block stand, and the offset of that block
-/// after the first one, in bytes.
+/// An entry of a list: the offset of its field, where the first and the last key of its block stand, and how many bytes after
+/// the first block that block stands.
 #[derive(Clone, Copy, Debug)]
 pub struct EntryKept {
     pub at: usize,
@@ -37,7 +37,8 @@ impl ListKept {
     }
 }
 
-/// What a check leaves of good addresses: the list of places and streets, that of houses, and how many records there are in both.
+/// What a check leaves of good addresses: the list of places and streets, that of houses, and how many records there are in
+/// both.
 #[derive(Debug, Drop)]
 pub struct AddressesKept {
     pub(crate) names: ListKept,

@@ -36,7 +36,7 @@ const BLOCK: u8 = 22;
 const ADDRESS: u8 = 10;
 
 /// A list that was seen, and how many addresses it has.
-#[derive(Debug, Drop)]
+#[derive(Drop)]
 pub(crate) struct ListSeen {
     pub(crate) list: ListKept,
     pub(crate) count: usize,

@@ -1,4 +1,4 @@
-use Rattle.std.proofs.Common.{◌≡◌, ◌+◌, ℕ, Option, None, false, true, ap, subst, ◌∙◌, arith, rules}
+use Rattle.std.proofs.Common.{ℕ, Option, false, true, ap, subst, ◌∙◌, arith}
 use Rattle.std.specs.Prelude.{IfSome}
 use Rattle.obf_wire.specs.declared.file.FileBreak.{FileBreak}
 use Rattle.obf_wire.specs.Fields.{Window, part_of}

@@ -1,8 +1,6 @@
-use Rattle.std.proofs.Common.{◌≡◌, ◌≤◌, ◌+◌, ℕ, Option, None, Some, ap, sym, subst, arith}
-use Rattle.std.specs.Option.{option_or}
+use Rattle.std.proofs.Common.{◌≡◌, ◌≤◌, ◌+◌, ℕ, Option, None, ap, sym, subst, arith}
 use Rattle.obf_wire.specs.Fields.{Window, IsWindow}
 use Rattle.obf_wire.specs.Windows.{range_of}
-use Rattle.file_grammar.specs.AddressRules.{Address}
 use Rattle.boxed_exact.specs.Sides.{beside}
 use Rattle.addr_section.specs.declared.addresses.SortKey.{SortKey}
 use Rattle.addr_section.specs.declared.block_rules.BlockSeen.{BlockSeen}

@@ -1,4 +1,4 @@
-use Rattle.std.proofs.Common.{◌≡◌, ℕ, refl, ap, subst, ◌∙◌}
+use Rattle.std.proofs.Common.{ℕ, refl, ap, subst}
 use Rattle.obf_wire.specs.Fields.{Window, part_of}
 use Rattle.obf_wire.specs.KnownKeys.{StandsFirst}
 use Rattle.obf_wire.specs.Windows.{range_of}
