@@ -159,7 +159,11 @@ impl Image {
     pub fn map(&self) -> Section<'_, MapClass>
         ensures { (fields : Fields) → message_at (Boxes Map) (map_window self.now) ≡ Ok fields → result ≡ map (block_records map_reads) (section_in fields).blocks }
     {
-        let window = Window::new(self.bytes.as_slice(), self.sections.map.from, self.sections.map.to);
+        let window = Window::new(
+            self.bytes.as_slice(),
+            self.sections.map.from,
+            self.sections.map.to,
+        );
         Section::new(window, &self.kept.map)
     }
 
