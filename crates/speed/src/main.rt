@@ -2,13 +2,14 @@
 //!
 //! The first word is the work: `wire` writes and reads numbers or points in their wire form, `rules` asks a table which rules
 //! match an object, `boxes` packs boxes and asks their tree for those in rectangles, `store` builds a store of nodes and commits
-//! changes of it, `users` does the same of a store of nodes and ways and the index of their users, and `over` goes over a
-//! store. The words after it say how, and how much. Without words a little of each is done. Printed are two numbers, so that
+//! changes of it, `users` does the same of a store of nodes and ways and the index of their users, `over` goes over a store, and
+//! `keys` makes keys of names. The words after it say how, and how much. Without words a little of each is done. Printed are two numbers, so that
 //! no work can be left out. Nothing is claimed of it but that it is safe and ends.
 #![tactic(auto)]
 
 mod boxes;
 mod changes;
+mod keys;
 mod matching;
 mod numbers;
 mod points;
@@ -151,6 +152,8 @@ fn main(rt: HostRuntime) -> io::Result<ExitCode> {
                 || print(&rt, changes::work(alloc, 1000, 40, 10))?
                 || print(&rt, changes::over(alloc, 1000, 3))?
                 || print(&rt, users::work(alloc, 1000, 40, 10))?
+                || print(&rt, keys::work(alloc, "plain", 1000))?
+                || print(&rt, keys::work(alloc, "others", 1000))?
         }
         "wire" => print(&rt, wire(alloc, text(&one), number(&two)))?,
         "rules" => print(
@@ -161,6 +164,7 @@ fn main(rt: HostRuntime) -> io::Result<ExitCode> {
             &rt,
             in_boxes(alloc, text(&one), number(&two), number(&three)),
         )?,
+        "keys" => print(&rt, keys::work(alloc, text(&one), number(&two)))?,
         "store" => changed(&rt, number(&one), number(&two), number(&three))?,
         "users" => followed(&rt, number(&one), number(&two), number(&three))?,
         "over" => gone_over(&rt, number(&one), number(&two))?,
