@@ -1,4 +1,4 @@
-use Rattle.std.proofs.Common.{◌≡◌, ◌∙◌, ℕ, List, Option, Some, None, ap, sym}
+use Rattle.std.proofs.Common.{◌≡◌, ◌∙◌, List, ap, sym}
 use Rattle.std.specs.Prelude.{slice_get}
 use Rattle.live_model.specs.declared.points.Rect.{Rect}
 use Rattle.boxed_exact.specs.declared.fields.Payload.{Payload}
