@@ -15,7 +15,7 @@ use std::sync::ledger::Ledger;
 
 /// A tree of boxes, seen as the list of its leaves. Above the leaves stand levels of nodes, each with the smallest
 /// box around eight of the level below, up to a single root.
-#[derive(Drop)]
+#[derive(Debug, Drop)]
 pub struct Tree {
     levels: Vec<List<Rect>>,
 }

@@ -1,3 +1,4 @@
+pub mod LeafBoxes
 pub mod PointWalk
 pub mod BlockWalk
 pub mod NodeWalk

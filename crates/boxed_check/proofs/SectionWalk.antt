@@ -26,7 +26,9 @@ use Rattle.boxed_check.specs.Keeping.{AreSpans, IsKept, blocks_of, entries_of}
 use Rattle.boxed_check.specs.declared.kept.Kept.{Kept}
 use Rattle.boxed_exact.specs.declared.fields.Payload.{Payload}
 use Rattle.boxed_exact.specs.Pairs.{leaf_of}
+use Rattle.boxed_check.specs.Leaves.{AreBoxes, boxes_of}
 use Rattle.boxed_check.proofs.BlockWalk.{all_append}
+use Rattle.boxed_check.proofs.LeafBoxes.{tree_same}
 use Rattle.file_grammar.proofs.Built.{ends_there, message_before}
 
 abbrev at_place : Window → ℕ → Window
@@ -111,9 +113,9 @@ module _ (class : Boxed) (boxing : Boxing) (beside : Beside) where
   blocks_again w fields e = e
 
   pub section_is : (w : Window) (tree : Field) (kept : Kept) → IsWindow w → StandsFirst w 14 tree → IsGoodTree (record { bytes = w.bytes; place = tree.from; end = tree.to }) [] kept.leaves.items
-      → AreBlocksSeen class boxing beside (at_place w tree.to) kept.leaves.items [] kept.blocks.items kept.records → IsKept class boxing beside w kept
+      → AreBlocksSeen class boxing beside (at_place w tree.to) kept.leaves.items [] kept.blocks.items kept.records → (AreBoxes kept.leaves.items → kept.tree ≡ boxes_of kept.leaves.items) → IsKept class boxing beside w kept
   unfolding section_facts
-  section_is w tree kept window read t b =
+  section_is w tree kept window read t b over =
       let own : List BoxNode = nodes_in t.fields in
       let blocks : List Block = blocks_of b.fields in
       let pairs : List Fact = paired_facts boxing beside (first_place boxing beside blocks) (leaves_in own) blocks in
@@ -123,6 +125,7 @@ module _ (class : Boxed) (boxing : Boxing) (beside : Beside) where
         read = message_before (Boxes class) None w 14 Tree tree t.fields b.fields window refl refl read t.read (blocks_again (at_place w tree.to) b.fields b.read);
         sound = all_append (flat_map node_facts own ++ pairs) (flat_map (block_facts boxing beside) blocks) (all_append (flat_map node_facts own) pairs t.facts (from_first tree.to (leaves_in own) blocks b.begins named)) b.facts;
         leaves = t.leaves;
+        tree = tree_same own kept.leaves.items kept.tree t.facts t.leaves over;
         blocks = subst (λ (ss : List Payload). AreSpans class w.bytes ss blocks) (sym b.added) b.spans_are;
         records = omega (arith, b.count_is);
       }

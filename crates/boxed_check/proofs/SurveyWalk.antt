@@ -20,6 +20,8 @@ use Rattle.boxed_exact.specs.Records.{AreRecords}
 use Rattle.boxed_exact.proofs.BlockWalk.{IsSectionOf, held_block}
 use Rattle.boxed_exact.proofs.RecordWalk.{IsBlockOf, block_of}
 use Rattle.boxed_check.specs.declared.kept.Kept.{Kept}
+use Rattle.boxed_check.specs.Leaves.{AreBoxes, boxes_of}
+use Rattle.boxed_check.proofs.LeafBoxes.{nodes_sound, tree_same}
 use Rattle.boxed_check.specs.Keeping.{AreSpans, IsKept, IsSurveyed, blocks_of, entries_of}
 
 -- ---- records
@@ -146,12 +148,13 @@ module _ (class : Boxed) (boxing : Boxing) where
   -- ---- a whole section
 
   pub survey_is : (beside : Beside) (w : Window) (fields : Fields) (s : IsSectionOf class boxing fields) (kept : Kept) (x y : Option FileBreak) (told : Option Edges) → message_at (Boxes class) w ≡ Ok fields → AllHold (section_facts boxing beside (section_in fields))
-      → AreNodesChecked s.tree x y [] kept.leaves.items told → IsSurveyed class w.bytes s.blocks [] kept.blocks.items kept.records → IsKept class boxing beside w kept
-  survey_is beside w fields s kept x y told read sound nodes blocks = record {
+      → AreNodesChecked s.tree x y [] kept.leaves.items told → IsSurveyed class w.bytes s.blocks [] kept.blocks.items kept.records → (AreBoxes kept.leaves.items → kept.tree ≡ boxes_of kept.leaves.items) → IsKept class boxing beside w kept
+  survey_is beside w fields s kept x y told read sound nodes blocks over = record {
     fields = fields;
     read = read;
     sound = sound;
     leaves = nodes.listed ∙ ap (λ (f : Fields). map_leaves f) (sym s.is);
+    tree = tree_same (section_in fields).nodes kept.leaves.items kept.tree (nodes_sound boxing beside (section_in fields) sound) (nodes.listed ∙ ap (λ (f : Fields). map_leaves f) (sym s.is)) over;
     blocks = subst (λ (f : Fields). AreSpans class w.bytes kept.blocks.items (section_in f).blocks) (sym s.is) (subst (λ (ps : List Payload). AreSpans class w.bytes ps (blocks_of s.blocks)) (sym blocks.added) blocks.are);
     records = blocks.counted ∙ ap (λ (f : Fields). length (entries_of (section_in f).blocks)) (sym s.is);
   } where

@@ -33,12 +33,14 @@ AreSpans class bytes [] [] = Unit {0}
 AreSpans class bytes (span ∷ spans) (block ∷ blocks) = IsSpan class bytes span block × AreSpans class bytes spans blocks
 AreSpans class bytes spans blocks = ⊥
 
--- the window holds a section of which every rule holds, with these leaves, blocks that stand there, and so many records
+-- the window holds a section of which every rule holds, with these leaves, a tree over their boxes, blocks that stand there, and so
+-- many records
 pub record IsKept (class : Boxed) (boxing : Boxing) (beside : Beside) (w : Window) (kept : Kept) : Type 0 where
   pub fields : Fields
   pub read : message_at (Boxes class) w ≡ Ok fields
   pub sound : AllHold (section_facts boxing beside (section_in fields))
   pub leaves : kept.leaves.items ≡ map shown (leaves_in (section_in fields).nodes)
+  pub tree : kept.tree ≡ map (λ leaf. leaf.node.box) (leaves_in (section_in fields).nodes)
   pub blocks : AreSpans class w.bytes kept.blocks.items (section_in fields).blocks
   pub records : kept.records ≡ length (entries_of (section_in fields).blocks)
 

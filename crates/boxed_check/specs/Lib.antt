@@ -1,3 +1,4 @@
+pub mod Leaves
 pub mod Keeping
 pub mod Points
 pub mod Blocks

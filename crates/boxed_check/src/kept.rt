@@ -2,13 +2,15 @@
 
 ghost use Rattle.std.specs.Prelude.{◌≡◌};
 
+use box_tree::Tree;
 use boxed_exact::{LeafSeen, Payload};
 
-/// What a check leaves of a good section: the leaves of its tree, where the blocks stand that they name, leaf by leaf, and how many
-/// records there are in all.
+/// What a check leaves of a good section: the leaves of its tree, a tree over their boxes to search them by, where the blocks stand that
+/// they name, leaf by leaf, and how many records there are in all.
 #[derive(Debug, Drop)]
 pub struct Kept {
     pub(crate) leaves: Vec<LeafSeen>,
+    pub(crate) tree: Tree,
     pub(crate) blocks: Vec<Payload>,
     pub(crate) records: usize,
 }
@@ -26,6 +28,13 @@ impl Kept {
         ensures { result.now ≡ self.now.leaves.items }
     {
         self.leaves.as_slice()
+    }
+
+    /// The tree over the boxes of these leaves, which finds those that meet a rectangle.
+    pub fn tree(&self) -> &Tree
+        ensures { result.now ≡ self.now.tree }
+    {
+        &self.tree
     }
 
     /// Where the messages of the blocks stand, in the order of the leaves.

@@ -11,6 +11,7 @@
 mod blocks;
 mod checked;
 mod kept;
+mod leaves;
 mod nodes;
 mod points;
 mod section;

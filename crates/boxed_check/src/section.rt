@@ -10,6 +10,7 @@ ghost use Rattle.boxed_check.specs.Keeping.{IsKept};
 
 use crate::blocks::see_block;
 use crate::kept::Kept;
+use crate::leaves::tree_over;
 use crate::nodes::see_node;
 use boxed_exact::{Around, CheckClass, LeafSeen, Payload};
 use file_grammar::Part;
@@ -47,8 +48,10 @@ pub fn see_section<C: CheckClass>(
     let Some(records) = found else {
         return Ok(None);
     };
+    let over = tree_over(alloc, &leaves)?;
     Ok(Some(Kept {
         leaves,
+        tree: over,
         blocks,
         records,
     }))

@@ -15,6 +15,7 @@ ghost use Rattle.boxed_exact.specs.Records.{AreRecords};
 ghost use Rattle.boxed_check.specs.Keeping.{IsKept, IsSurveyed};
 
 use crate::kept::Kept;
+use crate::leaves::tree_over;
 use crate::section::span_of;
 use boxed_exact::{CheckClass, Payload, check_nodes, next_payload};
 use file_grammar::{FieldWalk, FirstBreak, Part};
@@ -39,8 +40,10 @@ pub fn survey<C: CheckClass>(alloc: Global, window: Window<'_>) -> Mem<Kept>
         &mut leaves,
     )?;
     let records = survey_blocks::<C>(&mut walk, window.all(), &mut blocks)?;
+    let over = tree_over(alloc, &leaves)?;
     Ok(Kept {
         leaves,
+        tree: over,
         blocks,
         records,
     })

@@ -11,3 +11,4 @@ pub mod BareSections
 pub mod PackedReadings
 pub mod FittingRecords
 pub mod RecordParts
+pub mod MarkedSections

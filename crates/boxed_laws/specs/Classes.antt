@@ -5,13 +5,14 @@ use Rattle.std.specs.Str.{is_utf8}
 use Rattle.std.specs.Ordering.{is_gt}
 use Rattle.live_model.specs.declared.points.Rect.{Rect}
 use Rattle.live_model.specs.declared.rules.Rule.{Rule}
+use Rattle.live_model.specs.Ids.{ordinal}
 use Rattle.box_tree.specs.Trees.{Holds}
 use Rattle.file_grammar.specs.declared.parts.Boxed.{Boxed}
 use Rattle.file_grammar.specs.declared.parts.Part.TheVariants.{Record}
 use Rattle.file_grammar.specs.Facts.{AllHold}
 use Rattle.file_grammar.specs.Messages.{inside}
-use Rattle.file_grammar.specs.Sections.{Placed, Block, Entry, text_of}
-use Rattle.file_grammar.specs.BoxRules.{Beside, Boxing, holds_place}
+use Rattle.file_grammar.specs.Sections.{Placed, Block, Entry, object_of, text_of}
+use Rattle.file_grammar.specs.BoxRules.{Beside, Boxing, holds_place, is_marked}
 use Rattle.boxed_write.specs.Packed.{Packing, text_number}
 use Rattle.boxed_laws.specs.Bare.{Bare, a_number, bytes_of, stood, AreFormed}
 
@@ -27,6 +28,10 @@ pub record BoxedClass (A : Type 0) : Type 0 where
 -- beside the section stands a table of rules, and records need no mark
 abbrev pub without_marks : List Rule → Beside
 without_marks rules = record { rules = rules; marks = None }
+
+-- the rules, and these marks
+abbrev pub with_marks : List Rule → List ℕ → Beside
+with_marks rules marks = record { rules = rules; marks = Some marks }
 
 -- the edges are in order and in the grid
 pub record IsBox (b : Rect) : Type 0 where
@@ -94,3 +99,6 @@ pub record IsLawful {A : Type 0} (c : BoxedClass A) (suits : List Rule → A →
       → c.reads block (entry_of c texts at ordinal before r) ≡ r
   -- the record of an entry in which every rule holds suits the rules
   pub sound : (beside : Beside) (block : Block) (prev : Option Entry) (entry : Entry) → PassUtf8 block.texts → AllHold (c.boxing.facts beside block (prev, entry)) → suits beside.rules (c.reads block entry)
+  -- its ordinal is that of the object of its entry, and besides the mark of this object nothing is asked that marks tell
+  pub object : (block : Block) (entry : Entry) → c.packing.ordinal (c.reads block entry) ≡ ordinal (object_of entry.ordinal)
+  pub marked : (rules : List Rule) (marks : List ℕ) (block : Block) (pair : Option Entry × Entry) → is_marked (Some marks) pair.1.ordinal ≡ true → AllHold (c.boxing.facts (without_marks rules) block pair) → AllHold (c.boxing.facts (with_marks rules marks) block pair)

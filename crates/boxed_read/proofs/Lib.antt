@@ -2,3 +2,4 @@ pub mod EntryWalk
 pub mod BlockRead
 pub mod SectionRead
 pub mod PointWalk
+pub mod MeetingWalk

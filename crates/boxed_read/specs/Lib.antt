@@ -1,3 +1,4 @@
+pub mod Meeting
 pub mod Records
 pub mod Sound
 pub mod Steps

@@ -5,12 +5,14 @@
 //! memory; what it gives is seen as the record itself, and makes one where that is wanted.
 //!
 //! The layer above may rely on this: the views of a cursor are the records of the section, each once, in the order of the file,
-//! and a step is counted for each block that is read. A class of records says how one record is read (`ReadClass`).
+//! and a step is counted for each block that is read. Another cursor gives those of the blocks whose leaf's box meets a
+//! rectangle, and counts the nodes of the tree that it enters. A class of records says how one record is read (`ReadClass`).
 #![tactic(auto)]
 
 mod class;
 mod cursor;
 mod entries;
+mod meeting;
 mod parts;
 mod section;
 mod view;
@@ -18,6 +20,7 @@ mod view;
 pub use class::ReadClass;
 pub use cursor::AllCursor;
 pub use entries::Entries;
+pub use meeting::MeetingCursor;
 pub use parts::{object, one_point, point_after, points, text};
 pub use section::Section;
 pub use view::View;

@@ -1,29 +1,18 @@
 //! What sections owe their readers and writers beyond one call: laws, with nothing to run.
 
 ghost use Rattle.live_model.specs.Fits.{FitsMap};
-ghost use Rattle.file_grammar.specs.MapRules.{map_boxing};
-ghost use Rattle.file_grammar.specs.declared.parts.Boxed.TheVariants.{Map};
 ghost use Rattle.map_section.specs.MapLawful.{map_bare, map_lawful, map_reads};
 ghost use Rattle.map_section.specs.Laws.{AnyOrderLaw, FittingLaw, KeptLaw, OrdinalLaw, PackedLaw, PackedReadLaw};
 
 use crate::class::MapClass;
 use boxed_laws::SectionLaws;
-use file_grammar::Boxed;
 
 impl SectionLaws for MapClass {
-    ghost class = { Map };
-
-    ghost boxing = { map_boxing };
-
     ghost reads = { map_reads };
 
     ghost suits = { FitsMap };
 
     ghost bare = { map_bare };
-
-    fn class() -> Boxed {
-        Boxed::Map
-    }
 
     ghost lawful = { map_lawful };
 }

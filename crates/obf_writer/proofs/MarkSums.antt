@@ -1,10 +1,10 @@
 -- Marks that rise strictly come back from the steps between them, and break no rule.
 use Rattle.std.proofs.Common.{◌≡◌, ℕ, zero, suc, ◌+◌, ◌-◌, ◌<◌, ◌≤◌, ◌^◌, ◌/◌, ◌%◌, Bool, true, false, List, [], ◌∷◌, length, map, get_or, refl, ap, ◌∙◌, arith}
 use Rattle.std.specs.Prelude.{◌&&◌, ◌||◌, ◌==◌, not, nat_lt, nat_le, Contains, IsTrue, Some, None, if◌then◌else◌}
-use Rattle.std.specs.List.{AllByRecursion, list_all, list_any}
+use Rattle.std.specs.List.{AllByRecursion, list_all}
 use Rattle.std.specs.Ordering.{nat_cmp}
 use Rattle.std.specs.declared.cmp.Ordering.TheVariants.{Less}
-use Rattle.std.proofs.lemmas.Bool.{and_from, and_parts, eq-eqb, eqb-true, leb-true, lt-ltb, or_left, or_right}
+use Rattle.std.proofs.lemmas.Bool.{and_from, and_parts, eqb-true, leb-true, lt-ltb, or_left}
 use Rattle.std.proofs.lemmas.Bool.Decides.{nat_tests}
 use Rattle.live_model.specs.Ids.{Id, IsId, ordinal}
 use Rattle.ordered_lists.specs.Ordered.{IsRisingBy}
@@ -108,12 +108,3 @@ module _ {A : Type 0} (f : A → ℕ) where
 pub ordinals_of_ids : (ids : List Id) → AllByRecursion IsId ids → AreOrdinals (map ordinal ids)
 ordinals_of_ids [] all = tt
 ordinals_of_ids (o ∷ os) all = (ordinal_is o all.0, ordinals_of_ids os all.1)
-
--- a mark is found
-pub found : (marks : List ℕ) (n : ℕ) → Contains marks n → list_any (λ mark. mark == n) marks ≡ true
-found marks n c = at marks c.0 n c.1 c.2
-  where
-    at : (marks : List ℕ) (k n : ℕ) → k < length marks → get_or marks k n ≡ n → list_any (λ mark. mark == n) marks ≡ true
-    at [] k n inside e = absurd (omega arith)
-    at (m ∷ ms) zero n inside e = or_left (m == n) (list_any (λ mark. mark == n) ms) (eq-eqb m n e)
-    at (m ∷ ms) (suc k) n inside e = or_right (m == n) (list_any (λ mark. mark == n) ms) (at ms k n (omega arith) e)

@@ -13,6 +13,7 @@ use Rattle.live_model.specs.declared.records.RoadRec.{RoadRec}
 use Rattle.live_model.specs.declared.records.BanRec.{BanRec}
 use Rattle.live_model.specs.declared.records.Rec.{Rec}
 use Rattle.live_model.specs.declared.records.Rec.TheVariants.{Map, Poi, Addr, Road, Ban}
+use Rattle.live_model.specs.Fits.{FitsMap, FitsRoad}
 use Rattle.live_model.specs.Ids.{ordinal}
 use Rattle.live_model.specs.Records.{record_id}
 use Rattle.live_model.specs.Rules.{rules_text}
@@ -22,28 +23,33 @@ use Rattle.file_grammar.specs.AddressRules.{address_records_in, addresses_facts,
 use Rattle.file_grammar.specs.BoxRules.{Beside, is_ordinal, section_facts}
 use Rattle.file_grammar.specs.Facts.{AllHold, Fact}
 use Rattle.file_grammar.specs.Files.{FileParts, HeadNumbers, IsFile, beside, file_facts, file_in, is_head, marks_beside, rise_strictly, rules_in, sections_facts, sums_from, whole}
-use Rattle.file_grammar.specs.MapRules.{map_boxing, map_read, map_records_in}
+use Rattle.file_grammar.specs.MapRules.{map_boxing, map_records_in}
 use Rattle.file_grammar.specs.Messages.{Fields, IsMessage}
 use Rattle.file_grammar.specs.PoiRules.{groups_facts, poi_records_in}
-use Rattle.file_grammar.specs.RoadRules.{ban_boxing, ban_read, bans_in as bans_at, road_boxing, road_read, roads_in as roads_at, routing_facts, routing_in}
+use Rattle.file_grammar.specs.RoadRules.{ban_boxing, bans_in as bans_at, road_boxing, roads_in as roads_at, routing_facts, routing_in}
 use Rattle.file_grammar.specs.Sections.{section_in}
 use Rattle.file_grammar.proofs.HeadsByNumbers.{head_small}
-use Rattle.boxed_laws.specs.Classes.{without_marks}
+use Rattle.boxed_laws.specs.Classes.{with_marks, without_marks}
 use Rattle.boxed_laws.proofs.BlockTexts.{all_join}
+use Rattle.boxed_laws.proofs.FittingRecords.{all_before, all_behind}
+use Rattle.boxed_laws.proofs.MarkedSections.{marked_law}
 use Rattle.boxed_laws.proofs.KeptItems.{kept as blocks_kept}
 use Rattle.boxed_write.proofs.Sorting.{all_moved}
+use Rattle.map_section.specs.MapLawful.{map_class, map_lawful}
 use Rattle.map_section.specs.Packed.{map_packing}
 use Rattle.map_section.proofs.PackedMaps.{packed_law as packed_maps}
 use Rattle.poi_section.proofs.PackedGroups.{packed_groups}
 use Rattle.poi_section.proofs.PackedPois.{kept as groups_kept}
+use Rattle.road_section.specs.BanLawful.{FitsAnyRules, ban_class, ban_lawful}
 use Rattle.road_section.specs.Restrictions.{ban_packing}
+use Rattle.road_section.specs.RoadLawful.{road_class, road_lawful}
 use Rattle.road_section.specs.Roads.{road_packing}
 use Rattle.road_section.proofs.PackedSection.{packed_routing_law}
 use Rattle.obf_writer.specs.Classes.{addresses_in, bans_in, maps_in, pois_in, roads_in}
 use Rattle.obf_writer.specs.PackedFile.{AreParts, PackedFileLaw, packed_file, steps_from}
 use Rattle.obf_writer.proofs.Classes.{by_classes, by_side, classes_fit, ids_of, side_by_side}
 use Rattle.obf_writer.proofs.MarkSums.{beside_marks, marks_again, none_in_base, ordinals_are, rise_is, steps_small}
-use Rattle.obf_writer.proofs.MarkedSections.{addresses_with_marks, all_left, all_right, pois_with_marks, sound_with_marks, with_marks}
+use Rattle.obf_writer.proofs.MarkedSections.{addresses_with_marks, pois_with_marks}
 use Rattle.obf_writer.proofs.PackedAddresses.{packed_addresses_hold}
 use Rattle.obf_writer.proofs.PackedFields.{addresses_window, all_bytes, fields_formed, fields_spelled, fields_with, map_window, pois_window, roads_window, sections_there}
 use Rattle.obf_writer.proofs.RecordOrder.{order_again}
@@ -137,21 +143,21 @@ module _ (head : HeadNumbers) (rules : List Rule) (marks : List ℕ) (records : 
       let pois : List Rec = map Poi (poi_records_in s.pois) in
       let roads : List Rec = map Road (roads_at (routing_in s.roads).roads) in
       let bans : List Rec = map Ban (bans_at (routing_in s.roads).bans) in
-      let four = all_left IsMarkedRecord (maps ++ addresses ++ pois ++ roads) bans marked in
-      let three = all_left IsMarkedRecord (maps ++ addresses ++ pois) roads four in
-      let two = all_left IsMarkedRecord (maps ++ addresses) pois three in
+      let four = all_before IsMarkedRecord (maps ++ addresses ++ pois ++ roads) bans marked in
+      let three = all_before IsMarkedRecord (maps ++ addresses ++ pois) roads four in
+      let two = all_before IsMarkedRecord (maps ++ addresses) pois three in
       let of_roads : List Fact = section_facts road_boxing (without_marks rules) (routing_in s.roads).roads in
       let of_bans : List Fact = section_facts ban_boxing (without_marks rules) (routing_in s.roads).bans in
       record {
-        map = sound_with_marks rules marks map_boxing (λ block pair mark all. (all.0, (all.1.0, (mark, all.1.1.1)))) map_read (λ m. m.id) (λ block entry. refl) (section_in s.map)
-            (from_map Map _ (all_left IsMarkedRecord maps addresses two)) sound.map;
-        addresses = addresses_with_marks rules marks (addresses_of s.addresses) (from_map Addr _ (all_right IsMarkedRecord maps addresses two)) sound.addresses;
-        pois = pois_with_marks rules marks s.pois (from_map Poi _ (all_right IsMarkedRecord (maps ++ addresses) pois three)) sound.pois;
+        map = marked_law map_class FitsMap map_lawful rules marks (section_in s.map)
+            (from_map Map _ (all_before IsMarkedRecord maps addresses two)) sound.map;
+        addresses = addresses_with_marks rules marks (addresses_of s.addresses) (from_map Addr _ (all_behind IsMarkedRecord maps addresses two)) sound.addresses;
+        pois = pois_with_marks rules marks s.pois (from_map Poi _ (all_behind IsMarkedRecord (maps ++ addresses) pois three)) sound.pois;
         roads = all_join holds _ _
-            (sound_with_marks rules marks road_boxing (λ block pair mark all. (all.0, (all.1.0, (mark, all.1.1.1)))) road_read (λ r. r.id) (λ block entry. refl) (routing_in s.roads).roads
-            (from_map Road _ (all_right IsMarkedRecord (maps ++ addresses ++ pois) roads four)) (all_left holds of_roads of_bans sound.roads))
-            (sound_with_marks rules marks ban_boxing (λ block pair mark all. (all.0, (all.1.0, (mark, all.1.1.1)))) ban_read (λ b. b.id) (λ block entry. refl) (routing_in s.roads).bans
-            (from_map Ban _ (all_right IsMarkedRecord (maps ++ addresses ++ pois ++ roads) bans marked)) (all_right holds of_roads of_bans sound.roads));
+            (marked_law road_class FitsRoad road_lawful rules marks (routing_in s.roads).roads
+            (from_map Road _ (all_behind IsMarkedRecord (maps ++ addresses ++ pois) roads four)) (all_before holds of_roads of_bans sound.roads))
+            (marked_law ban_class FitsAnyRules ban_lawful rules marks (routing_in s.roads).bans
+            (from_map Ban _ (all_behind IsMarkedRecord (maps ++ addresses ++ pois ++ roads) bans marked)) (all_behind holds of_roads of_bans sound.roads));
       }
 
   sound_there : (s : SectionFields) → HoldsRecords s → SoundBeside (without_marks rules) s → SoundBeside (stand_beside (head.level == 0)) s

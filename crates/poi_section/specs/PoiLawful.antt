@@ -189,4 +189,6 @@ poi_lawful category named = record {
   contained = λ texts at number before p outer h. contained p outer h;
   again = again category;
   sound = λ beside block prev entry utf8 all. one_fits category named beside block prev entry (poi_fields entry.fields) utf8 all;
+  object = λ block entry. refl;
+  marked = λ rules marks block pair mark all. (all.0, (all.1.0, (mark, all.1.1.1)));
 }

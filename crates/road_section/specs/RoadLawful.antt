@@ -340,4 +340,6 @@ road_lawful = record {
   contained = λ texts at number before road outer h. contained road outer h;
   again = again;
   sound = λ beside block prev entry utf8 all. one_fits beside block prev entry (road_fields entry.fields) utf8 all;
+  object = λ block entry. refl;
+  marked = λ rules marks block pair mark all. (all.0, (all.1.0, (mark, all.1.1.1)));
 }

@@ -1,8 +1,7 @@
 //! What the sections of roads and of restrictions owe their readers and writers beyond one call: laws, with nothing to run.
 
 ghost use Rattle.live_model.specs.Fits.{FitsRoad};
-ghost use Rattle.file_grammar.specs.RoadRules.{ban_boxing, ban_read, road_boxing, road_read};
-ghost use Rattle.file_grammar.specs.declared.parts.Boxed.TheVariants.{Restriction, Road};
+ghost use Rattle.file_grammar.specs.RoadRules.{ban_read, road_read};
 ghost use Rattle.road_section.specs.RoadLawful.{road_bare, road_lawful};
 ghost use Rattle.road_section.specs.BanLawful.{FitsAnyRules, ban_bare, ban_lawful};
 ghost use Rattle.road_section.specs.Routing.{PackedRoutingLaw, PackedRoutingReadLaw};
@@ -11,40 +10,23 @@ ghost use Rattle.road_section.specs.Laws.{AnyOrderLaw, FittingLaw, KeptLaw, Pack
 use crate::ban_class::BanClass;
 use crate::road_class::RoadClass;
 use boxed_laws::SectionLaws;
-use file_grammar::Boxed;
 
 impl SectionLaws for RoadClass {
-    ghost class = { Road };
-
-    ghost boxing = { road_boxing };
-
     ghost reads = { road_read };
 
     ghost suits = { FitsRoad };
 
     ghost bare = { road_bare };
 
-    fn class() -> Boxed {
-        Boxed::Road
-    }
-
     ghost lawful = { road_lawful };
 }
 
 impl SectionLaws for BanClass {
-    ghost class = { Restriction };
-
-    ghost boxing = { ban_boxing };
-
     ghost reads = { ban_read };
 
     ghost suits = { FitsAnyRules };
 
     ghost bare = { ban_bare };
-
-    fn class() -> Boxed {
-        Boxed::Restriction
-    }
 
     ghost lawful = { ban_lawful };
 }

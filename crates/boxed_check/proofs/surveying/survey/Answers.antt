@@ -11,6 +11,7 @@ use Rattle.boxed_exact.specs.declared.fields.Payload.{Payload}
 use Rattle.boxed_exact.specs.declared.nodes.LeafSeen.{LeafSeen}
 use Rattle.boxed_exact.specs.Nodes.{AreNodesChecked}
 use Rattle.boxed_exact.proofs.BlockWalk.{IsSectionOf, held_tree, section_of}
+use Rattle.boxed_check.specs.Leaves.{AreBoxes, boxes_of}
 use Rattle.boxed_check.specs.declared.kept.Kept.{Kept}
 use Rattle.boxed_check.specs.Keeping.{IsSurveyed}
 use Rattle.boxed_check.proofs.Good.{unbroken}
@@ -37,10 +38,11 @@ returns g c beside none =
     let read = subst (λ (w : Window). message_at Tree w ≡ Ok s.tree) there held in
     let leaves : List LeafSeen = c.check_nodes.new.leaves.items in
     let blocks : List Payload = c.survey_blocks.new.blocks.items in
-    let kept : Kept = record { leaves = c.check_nodes.new.leaves; blocks = c.survey_blocks.new.blocks; records = c.in_ok-records.records } in
+    let kept : Kept = record { leaves = c.check_nodes.new.leaves; tree = c.in_ok-over.over; blocks = c.survey_blocks.new.blocks; records = c.in_ok-records.records } in
     let nodes = c.in_ok-check_nodes.ensures s.tree read in
     let from_none = subst (λ (ls : List LeafSeen). AreNodesChecked s.tree c.none-first.result c.check_nodes.new.first ls leaves c.in_ok-check_nodes.field-0) c.new-leaves.ensures.items nodes in
     let surveyed = c.in_ok-records.ensures s.blocks t.2 s.are in
     let here = subst (λ (bytes : List ℕ). IsSurveyed m.class bytes s.blocks c.new-blocks.result.items blocks c.in_ok-records.records) c.all.ensures surveyed in
     let from_empty = subst (λ (ps : List Payload). IsSurveyed m.class c.args.window.bytes.now s.blocks ps blocks c.in_ok-records.records) c.new-blocks.ensures.items here in
-    survey_is m.class m.boxing beside w u.fields s kept c.none-first.result c.check_nodes.new.first c.in_ok-check_nodes.field-0 u.read u.sound from_none from_empty
+    let over = subst (λ (ls : List LeafSeen). AreBoxes ls → c.in_ok-over.over ≡ boxes_of ls) c.deref.ensures.value c.in_ok-over.ensures in
+    survey_is m.class m.boxing beside w u.fields s kept c.none-first.result c.check_nodes.new.first c.in_ok-check_nodes.field-0 u.read u.sound from_none from_empty over
