@@ -35,6 +35,7 @@ use addr_read::Section as Addresses;
 use boxed_exact::Payload;
 use boxed_read::Section;
 use file_grammar::{Part, Version, form};
+use file_order::Ordered;
 use live_model::ObjId;
 use map_section::MapClass;
 use obf_wire::{FileError, Window};
@@ -243,6 +244,21 @@ impl Image {
         ensures { result ≡ self.now.records }
     {
         self.kept.records
+    }
+}
+
+/// Its place among others goes by its head and its rules.
+impl Ordered for Image {
+    ghost head_of = { λ image. image.head };
+
+    ghost rules_of = { λ image. image.rules };
+
+    fn head(&self) -> &Head {
+        &self.head
+    }
+
+    fn rules(&self) -> &Rules {
+        &self.rules
     }
 }
 
