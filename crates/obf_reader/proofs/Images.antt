@@ -1,5 +1,5 @@
 -- A file that breaks no rule, and what its parts then are.
-use Rattle.std.proofs.Common.{◌≡◌, ◌≢◌, ◌<◌, ◌≤◌, length, get_or, ◌/◌, ◌%◌, ◌^◌, ◌*◌, ◌+◌, ◌-◌, ℕ, zero, suc, Bool, true, false, List, [], ◌∷◌, ◌++◌, Option, Some, None, Ok, refl, sym, ap, subst, ◌∙◌, inl, inr, arith}
+use Rattle.std.proofs.Common.{◌≡◌, ◌≢◌, ◌<◌, ◌≤◌, length, get_or, ◌/◌, ◌%◌, ◌^◌, ◌*◌, ◌+◌, ◌-◌, ℕ, zero, suc, Bool, true, false, List, [], ◌∷◌, ◌++◌, map, Option, Some, None, Ok, refl, sym, ap, subst, ◌∙◌, inl, inr, arith}
 use Rattle.std.specs.Prelude.{ℤ, pos, negsuc, ◌&&◌, bytes_eq, if◌then◌else◌, unsigned_abs, is_some, nat_le, unwrap_or, slice_get, MatchOption}
 use Rattle.std.specs.List.{list_all}
 use Rattle.std.specs.Option.{option_and_then}
@@ -13,19 +13,26 @@ use Rattle.file_grammar.specs.BoxRules.{is_ordinal}
 use Rattle.file_grammar.specs.Facts.{AllHold, first_failing}
 use Rattle.file_grammar.specs.Files.{FileParts, beside, break_in_file, facts_in, file_break, file_facts, file_in, file_records, is_head, rise_strictly, rules_in, section_records, version_of, whole}
 use Rattle.file_grammar.specs.declared.parts.Version.{Version}
-use Rattle.file_grammar.specs.declared.parts.Part.TheVariants.{File}
+use Rattle.file_grammar.specs.declared.parts.Part.TheVariants.{Boxes, File, Routing}
 use Rattle.file_grammar.specs.Messages.{Fields, IsMessage}
-use Rattle.file_grammar.specs.Readings.{IsInMemory}
+use Rattle.file_grammar.specs.Listed.{block_records}
+use Rattle.file_grammar.specs.Readings.{IsInMemory, message_at}
+use Rattle.file_grammar.specs.RoadRules.{ban_boxing, ban_read, road_boxing, road_read, routing_in}
 use Rattle.file_grammar.specs.MapRules.{map_boxing}
 use Rattle.file_grammar.specs.Sections.{section_in}
 use Rattle.file_grammar.proofs.ReadIsSpelled.{read_is_spelled}
+use Rattle.live_model.specs.declared.records.BanRec.{BanRec}
 use Rattle.live_model.specs.declared.records.Rec.{Rec}
+use Rattle.live_model.specs.declared.records.RoadRec.{RoadRec}
 use Rattle.live_model.specs.Maps.{in_order, placed}
 use Rattle.live_model.specs.Records.{record_cmp}
 use Rattle.live_model.specs.Rules.{rule_lines, rules_text, spelled_rules}
-use Rattle.file_grammar.specs.declared.parts.Boxed.TheVariants.{Map as MapPart}
+use Rattle.file_grammar.specs.declared.parts.Boxed.TheVariants.{Map as MapPart, Restriction, Road as RoadPart}
 use Rattle.boxed_read.specs.Sound.{IsChecked}
-use Rattle.obf_reader.specs.Images.{IsImage, IsImageFile, Seen, map_window}
+use Rattle.poi_section.specs.PoiSections.{ArePoisChecked}
+use Rattle.road_section.specs.Routing.{AreInside as AreRoutingInside, bans_window, roads_window, routing_message}
+use Rattle.addr_read.specs.Sound.{AreChecked as AreAddressesChecked}
+use Rattle.obf_reader.specs.Images.{IsImage, IsImageFile, Seen, addresses_window, map_window, pois_window, routing_window}
 use Rattle.obf_reader.specs.Spread.{read_file}
 use Rattle.file_grammar.proofs.Earlier.{one_first_break_law}
 use Rattle.file_grammar.proofs.FileLaws.{read_of}
@@ -112,16 +119,54 @@ few_of text (Some spelled) rules e =
     let few = leb-true (length spelled) 100000 (and_parts (nat_le (length spelled) 100000) (bytes_eq text (rules_text spelled)) kept.0).0 in
     subst (λ (rules : List Rule). length rules ≤ 100000) kept.1 few
 
--- the map section of an image was checked
-pub section_checked : (image : Seen) → IsImage image → IsChecked MapPart map_boxing (map_window image) image.kept.map
-section_checked image i =
+-- the table of rules of an image is no larger than one may be
+few_rules : (image : Seen) (i : IsImage image) → length (beside i.holds.parts).rules ≤ 100000
+few_rules image i =
     let h = i.holds in
     let rules : unwrap_or (rules_in h.parts.rules.value) [] ≡ image.rules = ap (λ (o : Option (List Rule)). unwrap_or o []) h.rules in
-    record {
-      beside = beside h.parts;
-      few = subst (λ (rules : List Rule). length rules ≤ 100000) (sym rules) (few_of h.parts.rules.value (spelled_rules (rule_lines h.parts.rules.value)) image.rules h.rules);
-      is = h.kept.map;
-    }
+    subst (λ (rules : List Rule). length rules ≤ 100000) (sym rules) (few_of h.parts.rules.value (spelled_rules (rule_lines h.parts.rules.value)) image.rules h.rules)
+
+-- each section of an image was checked
+pub section_checked : (image : Seen) → IsImage image → IsChecked MapPart map_boxing (map_window image) image.kept.map
+section_checked image i = record { beside = beside i.holds.parts; few = few_rules image i; is = i.holds.kept.map }
+
+pub pois_checked : (image : Seen) → IsImage image → ArePoisChecked (pois_window image) image.kept.pois
+pois_checked image i = record { beside = beside i.holds.parts; few = few_rules image i; are = i.holds.kept.pois }
+
+pub addresses_checked : (image : Seen) → IsImage image → AreAddressesChecked image.version (addresses_window image) image.kept.addresses
+addresses_checked image i =
+    subst (λ (v : Version). AreAddressesChecked v (addresses_window image) image.kept.addresses) (sym i.holds.version) (record { beside = beside i.holds.parts; are = i.holds.kept.addresses })
+
+pub roads_checked : (image : Seen) → IsImage image → IsChecked RoadPart road_boxing (roads_window image.bytes image.kept.roads.spans) image.kept.roads.roads
+roads_checked image i = record { beside = beside i.holds.parts; few = few_rules image i; is = i.holds.kept.roads.roads }
+
+pub bans_checked : (image : Seen) → IsImage image → IsChecked Restriction ban_boxing (bans_window image.bytes image.kept.roads.spans) image.kept.roads.bans
+bans_checked image i = record { beside = beside i.holds.parts; few = few_rules image i; is = i.holds.kept.roads.bans }
+
+-- where the roads and the restrictions of an image stand
+pub routing_inside : (image : Seen) → IsImage image → AreRoutingInside image.bytes image.kept.roads.spans
+routing_inside image i = i.holds.kept.roads.inside
+
+-- the fields of the section of roads and restrictions are those that were kept
+same_routing : (image : Seen) (i : IsImage image) (fields : Fields) → message_at Routing (routing_window image) ≡ Ok fields
+    → routing_message image.kept.roads.spans i.holds.kept.roads.roads.fields i.holds.kept.roads.bans.fields i.holds.kept.roads.rest ≡ fields
+same_routing image i fields e = let both = sym i.holds.kept.roads.read ∙ e in cc
+
+-- the roads of a part are those of the section
+pub roads_of_section : (image : Seen) (i : IsImage image) (roads : List (List RoadRec)) (fields : Fields)
+    → ((part : Fields) → message_at (Boxes RoadPart) (roads_window image.bytes image.kept.roads.spans) ≡ Ok part → roads ≡ map (block_records road_read) (section_in part).blocks)
+    → message_at Routing (routing_window image) ≡ Ok fields → roads ≡ map (block_records road_read) (routing_in fields).roads.blocks
+roads_of_section image i roads fields read e =
+    let k = i.holds.kept.roads in
+    read k.roads.fields k.roads.read ∙ ap (λ (fs : Fields). map (block_records road_read) (routing_in fs).roads.blocks) (same_routing image i fields e)
+
+-- and so are its restrictions
+pub bans_of_section : (image : Seen) (i : IsImage image) (bans : List (List BanRec)) (fields : Fields)
+    → ((part : Fields) → message_at (Boxes Restriction) (bans_window image.bytes image.kept.roads.spans) ≡ Ok part → bans ≡ map (block_records ban_read) (section_in part).blocks)
+    → message_at Routing (routing_window image) ≡ Ok fields → bans ≡ map (block_records ban_read) (routing_in fields).bans.blocks
+bans_of_section image i bans fields read e =
+    let k = i.holds.kept.roads in
+    read k.bans.fields k.bans.read ∙ ap (λ (fs : Fields). map (block_records ban_read) (routing_in fs).bans.blocks) (same_routing image i fields e)
 
 pub some_rules : (r : Option (List Rule)) (rules : List Rule) → is_some r ≡ true → rules ≡ unwrap_or r [] → r ≡ Some rules
 some_rules (Some x) rules e f = ap (λ (rules : List Rule). Some rules) (sym f)

@@ -33,6 +33,16 @@ pub record Seen : Type 0 where
 abbrev pub map_window : Seen → Window
 map_window image = window_of image.bytes image.sections.map
 
+-- those of addresses, of points of interest, and of roads and restrictions
+abbrev pub addresses_window : Seen → Window
+addresses_window image = window_of image.bytes image.sections.addresses
+
+abbrev pub pois_window : Seen → Window
+pois_window image = window_of image.bytes image.sections.pois
+
+abbrev pub routing_window : Seen → Window
+routing_window image = window_of image.bytes image.sections.roads
+
 -- ordinals of ids, rising strictly
 abbrev pub AreMarks : List ℕ → Type 0
 AreMarks marks = (list_all is_ordinal marks ≡ true) × IsRisingBy nat_cmp (λ n. n) marks

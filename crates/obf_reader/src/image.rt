@@ -11,13 +11,19 @@ ghost use Rattle.file_grammar.specs.BoxRules.{is_ordinal};
 ghost use Rattle.file_grammar.specs.Readings.{IsInMemory};
 ghost use Rattle.boxed_exact.specs.Breaks.{Breaks};
 ghost use Rattle.file_grammar.specs.declared.parts.Boxed.TheVariants.{Map};
-ghost use Rattle.file_grammar.specs.declared.parts.Part.TheVariants.{Boxes};
+ghost use Rattle.file_grammar.specs.declared.parts.Part.TheVariants.{Addresses as AddressesPart, Boxes, Pois as PoisPart, Routing};
+ghost use Rattle.file_grammar.specs.AddressRules.{address_records_in, addresses_of};
+ghost use Rattle.file_grammar.specs.PoiRules.{groups_in};
+ghost use Rattle.file_grammar.specs.RoadRules.{ban_read, road_read, routing_in};
 ghost use Rattle.file_grammar.specs.Listed.{block_records};
 ghost use Rattle.file_grammar.specs.Messages.{Fields};
 ghost use Rattle.file_grammar.specs.Readings.{message_at};
 ghost use Rattle.file_grammar.specs.Sections.{section_in};
 ghost use Rattle.map_section.specs.MapLawful.{map_reads};
-ghost use Rattle.obf_reader.specs.Images.{IsImage, IsImageFile, IsImageOf, map_window};
+ghost use Rattle.poi_section.specs.PoiSections.{group_blocks};
+ghost use Rattle.boxed_read.specs.Steps.{joined};
+ghost use Rattle.addr_read.specs.Records.{address_blocks};
+ghost use Rattle.obf_reader.specs.Images.{IsImage, IsImageFile, IsImageOf, addresses_window, map_window, pois_window, routing_window};
 ghost use Rattle.obf_reader.specs.Reads.{IsGoodRead};
 
 use crate::heads::head_of;
@@ -25,12 +31,16 @@ use crate::parts::{PartsRead, read_parts};
 use crate::reading::{first_break, kept_of, read_good};
 use crate::sections::KeptSections;
 use crate::spans::Sections;
+use addr_read::Section as Addresses;
 use boxed_exact::Payload;
 use boxed_read::Section;
 use file_grammar::{Part, Version, form};
+use file_order::Ordered;
 use live_model::ObjId;
 use map_section::MapClass;
 use obf_wire::{FileError, Window};
+use poi_section::Pois;
+use road_section::{BanClass, RoadClass};
 use stamp_core::Head;
 use std::alloc::Global;
 use std::marker::Model;
@@ -174,11 +184,81 @@ impl Image {
         self.sections.map
     }
 
+    /// The groups of points of interest: of each the records of each block, in the order of the file.
+    #[tactic(auto, using(crate::proofs::Images::pois_checked))]
+    pub fn pois(&self) -> Pois<'_>
+        ensures { (fields : Fields) → message_at PoisPart (pois_window self.now) ≡ Ok fields → result ≡ map group_blocks (groups_in fields) }
+    {
+        let window = Window::new(
+            self.bytes.as_slice(),
+            self.sections.pois.from,
+            self.sections.pois.to,
+        );
+        Pois::new(window, &self.kept.pois)
+    }
+
+    /// The section of addresses: the records of each block, in the order of the file.
+    #[tactic(auto, using(crate::proofs::Images::addresses_checked))]
+    pub fn addresses(&self) -> Addresses<'_>
+        ensures blocks { (fields : Fields) → message_at (AddressesPart self.now.version) (addresses_window self.now) ≡ Ok fields → result ≡ address_blocks (addresses_of fields) }
+        ensures records { (fields : Fields) → message_at (AddressesPart self.now.version) (addresses_window self.now) ≡ Ok fields → joined result ≡ address_records_in (addresses_of fields) }
+    {
+        let window = Window::new(
+            self.bytes.as_slice(),
+            self.sections.addresses.from,
+            self.sections.addresses.to,
+        );
+        Addresses::new(self.version, window, &self.kept.addresses)
+    }
+
+    /// The section of roads: the records of each block, in the order of the file.
+    #[tactic(auto, using(crate::proofs::Images::roads_checked, crate::proofs::Images::routing_inside, crate::proofs::Images::roads_of_section))]
+    pub fn roads(&self) -> Section<'_, RoadClass>
+        ensures { (fields : Fields) → message_at Routing (routing_window self.now) ≡ Ok fields → result ≡ map (block_records road_read) (routing_in fields).roads.blocks }
+    {
+        let kept = &self.kept.roads;
+        let window = Window::new(
+            self.bytes.as_slice(),
+            kept.spans.roads.from,
+            kept.spans.roads.to,
+        );
+        Section::new(window, &kept.roads)
+    }
+
+    /// The section of restrictions: the records of each block, in the order of the file.
+    #[tactic(auto, using(crate::proofs::Images::bans_checked, crate::proofs::Images::routing_inside, crate::proofs::Images::bans_of_section))]
+    pub fn restrictions(&self) -> Section<'_, BanClass>
+        ensures { (fields : Fields) → message_at Routing (routing_window self.now) ≡ Ok fields → result ≡ map (block_records ban_read) (routing_in fields).bans.blocks }
+    {
+        let kept = &self.kept.roads;
+        let window = Window::new(
+            self.bytes.as_slice(),
+            kept.spans.bans.from,
+            kept.spans.bans.to,
+        );
+        Section::new(window, &kept.bans)
+    }
+
     /// How many records of all classes the file has.
     pub fn record_count(&self) -> usize
         ensures { result ≡ self.now.records }
     {
         self.kept.records
+    }
+}
+
+/// Its place among others goes by its head and its rules.
+impl Ordered for Image {
+    ghost head_of = { λ image. image.head };
+
+    ghost rules_of = { λ image. image.rules };
+
+    fn head(&self) -> &Head {
+        &self.head
+    }
+
+    fn rules(&self) -> &Rules {
+        &self.rules
     }
 }
 

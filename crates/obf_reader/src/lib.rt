@@ -20,4 +20,5 @@ mod sections;
 mod spans;
 mod top;
 
+pub use file_order::{NotRun, RunKind, follows};
 pub use image::{Image, images_are_files};

@@ -29,7 +29,7 @@ use Rattle.boxed_check.specs.Keeping.{IsKept}
 use Rattle.boxed_check.proofs.NodeWalk.{window_behind}
 use Rattle.road_section.specs.declared.section.Kept.{Kept as KeptParts}
 use Rattle.road_section.specs.declared.section.Spans.{Spans}
-use Rattle.road_section.specs.Routing.{AreParts, ArePartsOf, IsRoutingKept, bans_window, roads_window, routing_break, routing_message, rules_break}
+use Rattle.road_section.specs.Routing.{AreInside, AreParts, ArePartsOf, IsRoutingKept, bans_window, roads_window, routing_break, routing_message, rules_break}
 
 abbrev fields_ok : Fields → Result Fields FileBreak
 fields_ok x = Ok x
@@ -102,12 +102,13 @@ unbroken beside w spans parts none = one (message_at Routing w) refl none
 same_fields : (a b : Fields) → fields_ok a ≡ fields_ok b → a ≡ b
 same_fields a b e = cc
 
-pub kept_exactly : (beside : Beside) (w : Window) (kept : KeptParts) (u : AreUnbroken beside w kept.spans) → IsKept Road road_boxing beside (roads_window w.bytes kept.spans) kept.roads → IsKept Restriction ban_boxing beside (bans_window w.bytes kept.spans) kept.bans
+pub kept_exactly : (beside : Beside) (w : Window) (kept : KeptParts) (u : AreUnbroken beside w kept.spans) → AreInside w.bytes kept.spans → IsKept Road road_boxing beside (roads_window w.bytes kept.spans) kept.roads → IsKept Restriction ban_boxing beside (bans_window w.bytes kept.spans) kept.bans
     → IsRoutingKept beside w kept
-kept_exactly beside w kept u roads bans =
+kept_exactly beside w kept u inside roads bans =
     let same_roads = same_fields u.parts.roads roads.fields (sym u.parts.roads_read ∙ roads.read) in
     let same_bans = same_fields u.parts.bans bans.fields (sym u.parts.bans_read ∙ bans.read) in
     record {
+      inside = inside;
       roads = roads;
       bans = bans;
       rest = u.parts.rest;
@@ -117,9 +118,9 @@ kept_exactly beside w kept u roads bans =
           ∙ ap (λ (f : Fields). fields_ok (routing_message kept.spans roads.fields f u.parts.rest)) same_bans;
     }
 
-pub kept_straight : (beside : Beside) (w : Window) (kept : KeptParts) → AreParts w kept.spans → IsKept Road road_boxing beside (roads_window w.bytes kept.spans) kept.roads → IsKept Restriction ban_boxing beside (bans_window w.bytes kept.spans) kept.bans
+pub kept_straight : (beside : Beside) (w : Window) (kept : KeptParts) → AreParts w kept.spans → AreInside w.bytes kept.spans → IsKept Road road_boxing beside (roads_window w.bytes kept.spans) kept.roads → IsKept Restriction ban_boxing beside (bans_window w.bytes kept.spans) kept.bans
     → IsRoutingKept beside w kept
-kept_straight beside w kept parts roads bans = record { roads = roads; bans = bans; rest = ends; read = parts roads.fields bans.fields roads.read bans.read }
+kept_straight beside w kept parts inside roads bans = record { inside = inside; roads = roads; bans = bans; rest = ends; read = parts roads.fields bans.fields roads.read bans.read }
 
 -- what is kept of a section has no break
 pub kept_good : (beside : Beside) (w : Window) (kept : KeptParts) → IsRoutingKept beside w kept → routing_break beside w ≡ None

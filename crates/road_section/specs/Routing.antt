@@ -72,6 +72,7 @@ pub record ArePartsOf (bytes : List ℕ) (spans : Spans) (fields : Fields) : Typ
 
 -- the window holds a section of which every rule holds, and this is what there is of its parts
 pub record IsRoutingKept (beside : Beside) (w : Window) (kept : KeptParts) : Type 0 where
+  pub inside : AreInside w.bytes kept.spans
   pub roads : IsKept Road road_boxing beside (roads_window w.bytes kept.spans) kept.roads
   pub bans : IsKept Restriction ban_boxing beside (bans_window w.bytes kept.spans) kept.bans
   pub rest : Fields

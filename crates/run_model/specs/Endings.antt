@@ -1,7 +1,8 @@
 -- How a run ends, and the line on the error sink that tells it.
 use Rattle.std.specs.Prelude.{ℕ, List, [], ◌++◌, codes}
 use Rattle.std.specs.Fmt.{decimal as printed}
-use Rattle.run_model.specs.Inputs.{Misfit, break_text, run_kind_name}
+use Rattle.file_order.specs.Kinds.{run_kind_name}
+use Rattle.run_model.specs.Inputs.{Misfit, break_text}
 use Rattle.run_model.specs.declared.breaks.Break.{Break}
 use Rattle.run_model.specs.declared.name.Name.{Name}
 use Rattle.run_model.specs.declared.name.Name.TheVariants.{Given, Made}

@@ -9,8 +9,7 @@ use Rattle.file_grammar.specs.Files.{file_break}
 use Rattle.run_model.specs.Requests.{Asked, nodes, dump, build, check}
 use Rattle.run_model.specs.declared.breaks.Break.{Break}
 use Rattle.run_model.specs.declared.breaks.Break.TheVariants.{InRules, InObjects, InFile}
-use Rattle.run_model.specs.declared.breaks.RunKind.{RunKind}
-use Rattle.run_model.specs.declared.breaks.RunKind.TheVariants as kind
+use Rattle.file_order.specs.declared.kinds.RunKind.{RunKind}
 
 -- what a file is read as
 pub data Grammar : Type 0 where
@@ -78,11 +77,3 @@ pub record Misfit : Type 0 where
 -- The first of good files that does not follow, as their texts tell. Every file of today's verbs stands alone.
 abbrev pub misfit_in : Asked → List (List ℕ) → Option Misfit
 misfit_in a texts = None
-
--- the name of a kind of misfit
-abbrev pub run_kind_name : RunKind → List ℕ
-run_kind_name kind.IsBase = codes "IsBase"
-run_kind_name kind.OtherRules = codes "OtherRules"
-run_kind_name kind.StampNotLater = codes "StampNotLater"
-run_kind_name kind.OtherPeriod = codes "OtherPeriod"
-run_kind_name kind.NotBase = codes "NotBase"

@@ -42,36 +42,3 @@ impl fmt::Display for Break {
         }
     }
 }
-
-/// Why a good map file does not follow those before it.
-#[derive(Clone, Copy, PartialEq, Eq, Debug)]
-pub enum RunKind {
-    /// It is a base, and not the first.
-    IsBase,
-    /// It has other rules than the first.
-    OtherRules,
-    /// Its first hour is not after the last hour before it.
-    StampNotLater,
-    /// An hour of it is not in the period of the first.
-    OtherPeriod,
-    /// It is the first, and no base.
-    NotBase,
-}
-
-/// It displays as its name.
-impl fmt::Display for RunKind {
-    ghost use Rattle.std.specs.Prelude.{Some};
-    ghost use Rattle.run_model.specs.Inputs.{run_kind_name};
-
-    ghost output = { λ kind. Some (run_kind_name kind) };
-
-    fn fmt<W: fmt::Write>(&self, f: &mut fmt::Formatter<W>) -> fmt::Result {
-        match self {
-            RunKind::IsBase => f.write_str("IsBase"),
-            RunKind::OtherRules => f.write_str("OtherRules"),
-            RunKind::StampNotLater => f.write_str("StampNotLater"),
-            RunKind::OtherPeriod => f.write_str("OtherPeriod"),
-            RunKind::NotBase => f.write_str("NotBase"),
-        }
-    }
-}

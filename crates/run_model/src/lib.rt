@@ -16,7 +16,8 @@ mod request;
 mod status;
 
 pub use arguments::Arguments;
-pub use breaks::{Break, RunKind};
+pub use breaks::Break;
+pub use file_order::RunKind;
 pub use laws::outcomes_are_one;
 pub use name::Name;
 pub use request::{Request, Verb, read_request};

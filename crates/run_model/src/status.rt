@@ -3,8 +3,9 @@
 ghost use Rattle.std.specs.Prelude.{◌≡◌, Some, MatchOption};
 ghost use Rattle.run_model.specs.Endings.{NamesFile, code_of, ending, ending_line};
 
-use crate::breaks::{Break, RunKind};
+use crate::breaks::Break;
 use crate::name::Name;
+use file_order::RunKind;
 use live_model::NoMemory;
 use std::fmt;
 

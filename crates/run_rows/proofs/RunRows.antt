@@ -67,7 +67,7 @@ use Rattle.outside.specs.Whole.{IsWhole}
 use Rattle.run_model.specs.declared.breaks.Break.{Break}
 use Rattle.run_model.specs.declared.breaks.Break.TheVariants.{InRules, InObjects, InFile}
 use Rattle.run_model.specs.Requests.{Asked, asked_by, nodes, dump, build, check}
-use Rattle.run_model.specs.declared.breaks.RunKind.TheVariants as kind
+use Rattle.file_order.specs.declared.kinds.RunKind.TheVariants as kind
 use Rattle.run_model.specs.Inputs.{Input, Misfit, Plan, input, in_turn, plan_of, output_of, break_in, break_text, no_more, reads, rule_table, object_text, map_file}
 use Rattle.run_model.specs.FileLines.{file_line}
 use Rattle.run_model.specs.Jobs.{IsStoreOf, Job, Outcome, Task, base_head, prints, task_of}

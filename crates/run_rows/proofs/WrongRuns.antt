@@ -19,7 +19,7 @@ use Rattle.live_model.specs.LineTests.{tests_of, break_of}
 use Rattle.live_model.specs.OplTexts.{text_break}
 use Rattle.run_model.specs.declared.breaks.Break.TheVariants.{InObjects}
 use Rattle.run_model.specs.declared.arguments.Arguments.TheVariants as arguments
-use Rattle.run_model.specs.declared.breaks.RunKind.TheVariants as kind
+use Rattle.file_order.specs.declared.kinds.RunKind.TheVariants as kind
 use Rattle.run_model.specs.Endings.{Ending, done, bad_words, too_many_files, refused, misfit, read_fault, write_fault, answer_fault, no_memory, over_limit, code_of, ending_line}
 use Rattle.run_model.specs.Inputs.{Input, Misfit, Plan, input, in_turn, no_more, object_text, map_file, plan_of, reads}
 use Rattle.run_model.specs.Jobs.{Outcome, Task, prints, task_of}

@@ -16,6 +16,6 @@ returns c beside none =
     let u = unbroken beside w c.read_spans-spans.result c.read_spans-spans.ensures.read none in
     let roads = c.in_ok-roads.ensures beside (subst (λ (v : Window). section_break Road road_boxing beside v ≡ None) (sym c.roads_in.ensures) u.roads) in
     let bans = c.in_ok-bans.ensures beside (subst (λ (v : Window). section_break Restriction ban_boxing beside v ≡ None) (sym c.bans_in.ensures) u.bans) in
-    kept_exactly beside w kept u
+    kept_exactly beside w kept u c.read_spans-spans.ensures.inside
     (subst (λ (v : Window). IsKept Road road_boxing beside v c.in_ok-roads.roads) c.roads_in.ensures roads)
     (subst (λ (v : Window). IsKept Restriction ban_boxing beside v c.in_ok-bans.bans) c.bans_in.ensures bans)

@@ -1,0 +1,3 @@
+pub mod AddressRead
+pub mod BlockWalk
+pub mod SectionRead
