@@ -77,6 +77,7 @@ AreCivil head = IfSome head.first IsCivilHour × IfSome head.last IsCivilHour
 pub image_checked : (image : Seen) (head : Head) (marks records : ℕ) (line : List ℕ) → IsImageFile image → IsGoodHead image.head → head ≡ image.head
     → AreCivil head → marks ≡ length image.marks → records ≡ image.records → line ≡ file_line head marks records → IsChecked image.bytes (prints line)
 image_checked image head marks records line file good same_head civil same_marks same_records is = record {
+  version = image.version;
   head = image.head;
   good = good;
   civil = subst (λ (h : Head). AreCivil h) same_head civil;

@@ -525,7 +525,17 @@ fields_of (Err b) = ends
 fields_of (Ok fields) = fields
 
 abbrev or_no_parts : Option FileParts → FileParts
-or_no_parts None = record { head = record { at = 0; value = record { level = 0; first = 0; last = 0 } }; rules = record { at = 0; value = [] }; map = ends; marks = record { at = 0; value = [] }; again = record { at = 0; value = 0 } }
+or_no_parts None = record {
+  version = 0;
+  head = record { at = 0; value = record { level = 0; first = 0; last = 0 } };
+  rules = record { at = 0; value = [] };
+  map = ends;
+  addresses = ends;
+  pois = ends;
+  roads = ends;
+  marks = record { at = 0; value = [] };
+  again = record { at = 0; value = 0 };
+}
 or_no_parts (Some parts) = parts
 
 abbrev bare_fields : Fields
