@@ -2,3 +2,4 @@ mod Joining
 mod Differing
 mod Untagged
 mod Wholes
+mod Writing

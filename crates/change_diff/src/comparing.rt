@@ -1,13 +1,17 @@
 //! Which of some objects give other records after a change.
 
 ghost use Rattle.std.specs.Prelude.{◌≡◌, ◌+◌, ◌*◌, ◌++◌, ◌≤◌, [], ◌∷◌, length, filter, flat_map, if◌then◌else◌, IfOk, OnOk};
+ghost use Rattle.std.specs.List.{AllByRecursion};
 ghost use Rattle.std.specs.Ordering.{is_ne};
 ghost use Rattle.std.specs.Cmp.Lexicographic.{slice_cmp};
+ghost use Rattle.live_model.specs.Fits.{FitsRules};
 ghost use Rattle.live_model.specs.Maps.{differs};
+ghost use Rattle.live_model.specs.Objects.{IsGood};
 ghost use Rattle.live_model.specs.Records as Records;
 ghost use Rattle.live_model.specs.Records.{record_cmp};
 
 use crate::records::put_records;
+use crate::texts::are_texts;
 use entity_store::Look;
 use live_model::{Mem, ObjId, Rec, Steps};
 use std::alloc::Global;
@@ -22,8 +26,8 @@ pub struct Changed {
     pub records: Vec<Rec>,
 }
 
-/// Of these objects those that give other records after a change than before it, and their records then. It counts eight
-/// steps for each object, and at most that where memory is refused.
+/// Of these objects those that give other records after a change than before it, and their records then, which fit the rules
+/// where the objects are good. It counts eight steps for each object, and at most that where memory is refused.
 pub fn changed_among<L: Ledger>(
     alloc: Global,
     rules: &Rules,
@@ -34,6 +38,7 @@ pub fn changed_among<L: Ledger>(
 ) -> Mem<Changed>
     ensures marks { IfOk result (λ found. found.marks.items ≡ filter (differs rules.now before.now after.now) ids.now) }
     ensures records { IfOk result (λ found. found.records.items ≡ flat_map (Records.records rules.now after.now) (filter (differs rules.now before.now after.now) ids.now)) }
+    ensures fit { AllByRecursion IsGood after.now → IfOk result (λ found. FitsRules rules.now found.records.items) }
     ensures counted { OnOk result (steps.new ≡ steps.old + 8 * length ids.now) }
     ensures most { steps.new ≤ steps.old + 8 * length ids.now }
 {
@@ -61,14 +66,26 @@ fn put_if_changed<L: Ledger>(
 ) -> Mem<()>
     ensures marks { OnOk result (found.new.marks.items ≡ found.old.marks.items ++ filter (differs rules.now before.now after.now) (id.now ∷ [])) }
     ensures records { OnOk result (found.new.records.items ≡ found.old.records.items ++ flat_map (Records.records rules.now after.now) (filter (differs rules.now before.now after.now) (id.now ∷ []))) }
+    ensures fit { AllByRecursion IsGood after.now → FitsRules rules.now found.old.records.items → OnOk result (FitsRules rules.now found.new.records.items) }
     ensures counted { OnOk result (steps.new ≡ steps.old + 8) }
     ensures most { steps.new ≤ steps.old + 8 }
 {
+    records_fit(rules, after, id);
     let mut old = Vec::new(alloc);
     put_records(alloc, rules, before, id, steps, &mut old)?;
     let mut new = Vec::new(alloc);
     put_records(alloc, rules, after, id, steps, &mut new)?;
     put_unless_same(id, &old, new, found)
+}
+
+/// Nothing to be done but a look-up: that the records of an object fit the rules, where all objects are good.
+fn records_fit(rules: &Rules, look: &Look<'_>, id: &ObjId)
+    ensures { AllByRecursion IsGood look.now → FitsRules rules.now (Records.records rules.now look.now id.now) }
+{
+    let _rules = rules.as_slice();
+    if let Some(entity) = look.get(id) {
+        are_texts(entity);
+    }
 }
 
 /// Puts an object and its new records at the end, where these are not the old ones.

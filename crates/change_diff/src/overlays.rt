@@ -7,7 +7,7 @@ ghost use Rattle.entity_store.specs.Changes.{after_changes};
 ghost use Rattle.ref_index.specs.Indexes.{Indexes};
 ghost use Rattle.live_model.specs.Stores.{apply};
 ghost use Rattle.live_model.specs.Users.{touched};
-ghost use Rattle.change_diff.specs.Overlays.{IsChange, IsOverlayOf};
+ghost use Rattle.change_diff.specs.Overlays.{CanBeWritten, IsChange, IsOverlayOf};
 
 use crate::comparing::{Changed, changed_among};
 use entity_store::{Look, Staged, Store};
@@ -28,7 +28,7 @@ pub struct Change {
 }
 
 /// The overlay of lines over the map of a store, and what is staged of them, where the index is that of the store and both
-/// store and lines are good. Store and index stay, also where memory is refused, and have room for what is staged. It counts
+/// store and lines are good: marks and records can be written as they are. Store and index stay, also where memory is refused, and have room for what is staged. It counts
 /// eight steps for each object that the lines touch, and at most that where memory is refused.
 pub fn overlay<L: Ledger>(
     alloc: Global,
@@ -47,6 +47,7 @@ pub fn overlay<L: Ledger>(
     ensures staged { IfOk result (λ change. after_changes store.old.entities change.staged ≡ apply store.old.entities lines.now) }
     ensures refs { IsChange store.old.entities index.old.map lines.now → IfOk result (λ change. Indexes (laid nat_cmp index.old.map change.refs) (apply store.old.entities lines.now)) }
     ensures overlay { IsChange store.old.entities index.old.map lines.now → IfOk result (λ change. IsOverlayOf rules.now store.old.entities lines.now change.marks.items change.records.items) }
+    ensures written { IsChange store.old.entities index.old.map lines.now → IfOk result (λ change. CanBeWritten rules.now change.marks.items change.records.items) }
     ensures counted { Indexes index.old.map store.old.entities → OnOk result (steps.new ≡ steps.old + 8 * length (touched store.old.entities lines.now)) }
     ensures most { Indexes index.old.map store.old.entities → steps.new ≤ steps.old + 8 * length (touched store.old.entities lines.now) }
 {

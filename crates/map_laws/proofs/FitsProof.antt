@@ -444,13 +444,17 @@ module _ (rules : List Rule) (are : AllByRecursion IsRule rules) (e : Entity) (i
 
 -- ---- of a store
 
-found_fit : (rules : List Rule) → AllByRecursion IsRule rules → (store : List Entity) → AllByRecursion IsGood store → AllByRecursion HasTexts store → (id : Id) → AllByRecursion (Fits rules) (records rules store id)
-found_fit rules are store good texts id =
-    subst (AllByRecursion (Fits rules)) (sym (records_are rules store id)) (one (entity_at store id) (found (λ e. IsGood e × HasTexts e) (λ e. key e == ordinal id) store (all_join IsGood HasTexts store good texts)))
+-- the records of one object of good objects fit, where the texts of this one are UTF-8
+pub object_fits : (rules : List Rule) → AllByRecursion IsRule rules → (store : List Entity) → AllByRecursion IsGood store → (id : Id) → IfSome (entity_at store id) HasTexts → AllByRecursion (Fits rules) (records rules store id)
+object_fits rules are store good id texts =
+    subst (AllByRecursion (Fits rules)) (sym (records_are rules store id)) (one (entity_at store id) (found IsGood (λ e. key e == ordinal id) store good) texts)
   where
-    one : (o : Option Entity) → IfSome o (λ e. IsGood e × HasTexts e) → AllByRecursion (Fits rules) (records_from rules o (map (looked_up store) (referred o)))
-    one None h = tt
-    one (Some e) h = records_fit rules are e h.0 h.1 (map (looked_up store) (refers_to e)) (looked_fine store good (refers_to e) (refers_good e h.0))
+    one : (o : Option Entity) → IfSome o IsGood → IfSome o HasTexts → AllByRecursion (Fits rules) (records_from rules o (map (looked_up store) (referred o)))
+    one None is texts = tt
+    one (Some e) is texts = records_fit rules are e is texts (map (looked_up store) (refers_to e)) (looked_fine store good (refers_to e) (refers_good e is))
+
+found_fit : (rules : List Rule) → AllByRecursion IsRule rules → (store : List Entity) → AllByRecursion IsGood store → AllByRecursion HasTexts store → (id : Id) → AllByRecursion (Fits rules) (records rules store id)
+found_fit rules are store good texts id = object_fits rules are store good id (found HasTexts (λ e. key e == ordinal id) store texts)
 
 pub fits_law : FitsLaw
 fits_law rules store are is texts = go store

@@ -1,3 +1,4 @@
 pub mod GoodTexts
 pub mod Outcomes
 pub mod Finished
+pub mod Changes

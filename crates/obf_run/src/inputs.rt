@@ -72,7 +72,7 @@ pub fn read_store<'a, F: Files>(
 
 /// Reads the lines of a text of objects.
 #[tactic(auto, using(crate::proofs::GoodTexts::whole_part, crate::proofs::GoodTexts::unread_ends))]
-fn read_lines<'a, F: Files>(
+pub fn read_lines<'a, F: Files>(
     alloc: Global,
     files: &mut F,
     file: Name<'a>,

@@ -8,6 +8,7 @@
 //! sinks; `run_arguments` answers the code of that ending; `start` only makes the real files and sinks for it.
 #![tactic(auto)]
 
+mod changing;
 mod file_line;
 mod inputs;
 mod jobs;

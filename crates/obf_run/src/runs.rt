@@ -1,17 +1,19 @@
 //! The top call.
 
-ghost use Rattle.std.specs.Prelude.{◌≡◌, ◌⊎◌, IfErr, IfOk};
+ghost use Rattle.std.specs.Prelude.{◌≡◌, ◌⊎◌, ◌∷◌, ◌++◌, [], IfErr, IfOk};
 ghost use Rattle.run_model.specs.Endings.{NamesFile, ending, no_memory};
 ghost use Rattle.run_model.specs.Jobs.{task_of};
-ghost use Rattle.run_model.specs.Requests.{asked, build};
+ghost use Rattle.run_model.specs.Requests.{asked, build, change_map};
 ghost use Rattle.run_model.specs.Runs.{CausedBy, EndsSo, EndsWithCode, IsLinePut, PutsLine, ReceivesNothing, Run, change};
 ghost use Rattle.obf_run.specs.Finishing.{IsPut};
 
+use crate::changing::changed_file;
 use crate::jobs::{built_file, check_answer, dump_answer, nodes_answer};
 use crate::packing::{finish, put_answer};
 use live_model::{Steps, Text};
 use outside::{Files, Gate, Sink, put_all};
 use run_model::{Arguments, NO_MEMORY, Name, Request, Status, fixed_line, read_request};
+use stamp_core::Stamp;
 use std::alloc::Global;
 use std::sync::Wait;
 use std::sync::ledger::Ledger;
@@ -115,6 +117,16 @@ fn answer_request<'a, F: Files, K: Sink, L: Ledger>(
             base,
             output,
         } => build(alloc, rules, base, output, files, out, steps),
+        Request::Change {
+            rules,
+            base,
+            hour,
+            output,
+            earlier,
+            last,
+        } => change(
+            alloc, rules, base, hour, output, earlier, last, files, out, steps,
+        ),
         Request::Check { file } => print(check_answer(alloc, files, Name::Given(file)), out),
     }
 }
@@ -143,6 +155,36 @@ fn build<'a, F: Files, K: Sink, L: Ledger>(
     ensures { CausedBy (ending result) (change (F.state files.old) (F.state files.new)) (change (K.state out.old) (K.state out.new)) (task_of (build rules.now base.now output.now)) }
 {
     match built_file(alloc, files, Name::Given(rules), Name::Given(base), steps) {
+        Ok(built) => finish(files, Name::Given(output), &built, out),
+        Err(status) => status,
+    }
+}
+
+/// Makes the map file of an hour of the changes of a base, writes it, and puts its line.
+fn change<'a, F: Files, K: Sink, L: Ledger>(
+    alloc: Global,
+    rules: &'a str,
+    base: &'a str,
+    hour: Stamp,
+    output: &'a str,
+    earlier: &'a [Text],
+    last: &'a str,
+    files: &mut F,
+    out: &mut K,
+    steps: &mut Steps<L>,
+) -> Status<'a>
+    ensures { CausedBy (ending result) (change (F.state files.old) (F.state files.new)) (change (K.state out.old) (K.state out.new)) (task_of (change_map rules.now base.now hour output.now (earlier.now ++ last.now ∷ []))) }
+{
+    match changed_file(
+        alloc,
+        files,
+        Name::Given(rules),
+        Name::Given(base),
+        hour,
+        earlier,
+        Name::Given(last),
+        steps,
+    ) {
         Ok(built) => finish(files, Name::Given(output), &built, out),
         Err(status) => status,
     }

@@ -1,12 +1,12 @@
 -- The files that a run reads, in their order, and how each of them breaks.
-use Rattle.std.specs.Prelude.{ℕ, List, [], ◌∷◌, ◌++◌, codes, Option, Some, None}
+use Rattle.std.specs.Prelude.{ℕ, List, [], ◌∷◌, ◌++◌, codes, map, Option, Some, None}
 use Rattle.std.specs.Option.{option_map}
 use Rattle.std.specs.Fmt.{decimal as printed}
 use Rattle.live_model.specs.OplTexts.{kind_name, text_break}
 use Rattle.live_model.specs.Rules.{rule_kind_name, rules_break}
 use Rattle.obf_wire.specs.Kinds.{file_name as file_kind_name}
 use Rattle.file_grammar.specs.Files.{file_break}
-use Rattle.run_model.specs.Requests.{Asked, nodes, dump, build, check}
+use Rattle.run_model.specs.Requests.{Asked, nodes, dump, build, change_map, check}
 use Rattle.run_model.specs.declared.breaks.Break.{Break}
 use Rattle.run_model.specs.declared.breaks.Break.TheVariants.{InRules, InObjects, InFile}
 use Rattle.file_order.specs.declared.kinds.RunKind.{RunKind}
@@ -36,24 +36,31 @@ abbrev pub in_turn : List Input → Plan
 in_turn [] = no_more
 in_turn (file ∷ files) = reads file (λ text. in_turn files)
 
+-- texts of objects of these names
+abbrev pub object_texts : List (List ℕ) → List Input
+object_texts names = map (λ name. input name object_text) names
+
 -- the files that are read, in order
 abbrev pub plan_of : Asked → Plan
 plan_of (nodes rect base) = in_turn (input base object_text ∷ [])
 plan_of (dump base) = in_turn (input base object_text ∷ [])
 plan_of (build rules base output) = in_turn (input rules rule_table ∷ input base object_text ∷ [])
+plan_of (change_map rules base hour output changes) = in_turn (input rules rule_table ∷ input base object_text ∷ object_texts changes)
 plan_of (check file) = in_turn (input file map_file ∷ [])
 
--- the most files that words may name, where a verb takes any number of them
+-- the most files that words may name, where a verb takes no more than so many of them
 abbrev pub most_files : ℕ
 most_files = 1024
 
--- How many files the words name, where the verb takes any number of them. No verb does yet.
+-- How many files the words name, where the verb takes no more than so many of them. No verb does yet: the texts of a change are not
+-- counted.
 abbrev pub files_named : Asked → ℕ
 files_named a = 0
 
 -- the name of the file that is written, where one is
 abbrev pub output_of : Asked → Option (List ℕ)
 output_of (build rules base output) = Some output
+output_of (change_map rules base hour output changes) = Some output
 output_of a = None
 
 -- how the bytes of a file break first; none where they are in the grammar

@@ -1,22 +1,23 @@
 -- What each verb prints, and what it writes.
-use Rattle.std.specs.Prelude.{◌≡◌, ℕ, List, [], ◌∷◌, length, Option, Some, None, IfSome}
-use Rattle.live_model.specs.declared.levels.Level.TheVariants.{Base}
+use Rattle.std.specs.Prelude.{◌≡◌, ℕ, List, [], ◌∷◌, ◌++◌, length, map, Option, Some, None, IfSome}
+use Rattle.live_model.specs.declared.levels.Level.TheVariants.{Base, Hour}
 use Rattle.live_model.specs.declared.objects.Entity.{Entity}
 use Rattle.live_model.specs.declared.objects.Line.{Line}
 use Rattle.live_model.specs.declared.records.Rec.{Rec}
 use Rattle.live_model.specs.declared.rules.Rule.{Rule}
 use Rattle.live_model.specs.CanonicalLines.{lines_text, nodes_in}
-use Rattle.live_model.specs.Maps.{map_of}
+use Rattle.live_model.specs.Ids.{ordinal}
+use Rattle.live_model.specs.Maps.{map_of, overlay, published}
 use Rattle.live_model.specs.OplTexts.{OplText}
 use Rattle.live_model.specs.Rules.{RuleText}
 use Rattle.live_model.specs.Stores.{apply}
 use Rattle.stamp_core.specs.declared.head.Head.{Head}
 use Rattle.stamp_core.specs.Heads.{IsGoodHead}
-use Rattle.stamp_core.specs.Hours.{IsCivilHour}
+use Rattle.stamp_core.specs.Hours.{CivilHour, IsCivilHour}
 use Rattle.file_grammar.specs.declared.parts.Version.{Version}
 use Rattle.file_grammar.specs.Files.{IsFile, head_numbers}
 use Rattle.obf_writer.specs.PackedFile.{IsPackedFile}
-use Rattle.run_model.specs.Requests.{Asked, nodes, dump, build, check}
+use Rattle.run_model.specs.Requests.{Asked, nodes, dump, build, change_map, check}
 use Rattle.run_model.specs.FileLines.{file_line}
 use Rattle.run_model.specs.Inputs.{Misfit, Plan, files_named, misfit_in, output_of, plan_of}
 
@@ -69,6 +70,34 @@ pub record IsBuilt (table text : List ℕ) (outcome : Outcome) : Type 0 where
   pub made : IsStoreOf text store
   pub packed : IsPacked (base_parts rules store) outcome
 
+-- the file of one hour
+abbrev pub hour_head : CivilHour → Head
+hour_head hour = record { level = Hour; first = Some hour; last = Some hour }
+
+-- it has the overlay of lines over the map of a store: the marks, by their ordinals, and the records
+abbrev pub hour_parts : CivilHour → List Rule → List Entity → List Line → Parts
+hour_parts hour rules store lines =
+    let o = overlay rules store lines in
+    record { head = hour_head hour; rules = rules; marks = map ordinal o.marks; records = o.records }
+
+-- each of these texts spells the lines beside it
+abbrev pub AreTexts : List (List ℕ) → List (List Line) → Type 0
+AreTexts [] [] = Unit {0}
+AreTexts (text ∷ texts) (lines ∷ changes) = OplText text lines × AreTexts texts changes
+AreTexts texts changes = ⊥
+
+-- The base is changed by the lines of all texts but the last. Of the last, the packed file of the hour with its overlay is written, and
+-- the line of this file is printed.
+pub record IsChanged (hour : CivilHour) (table text : List ℕ) (texts : List (List ℕ)) (outcome : Outcome) : Type 0 where
+  pub rules : List Rule
+  pub spelled : RuleText table rules
+  pub base : List Entity
+  pub made : IsStoreOf text base
+  pub earlier : List (List Line)
+  pub last : List Line
+  pub changes : AreTexts texts (earlier ++ last ∷ [])
+  pub packed : IsPacked (hour_parts hour rules (published base earlier) last) outcome
+
 -- the bytes are a map file of some version, and its line is printed
 pub record IsChecked (bytes : List ℕ) (outcome : Outcome) : Type 0 where
   pub version : Version
@@ -86,6 +115,7 @@ abbrev pub Job : Asked → List (List ℕ) → Outcome → Type 0
 Job (nodes rect base) (text ∷ []) outcome = IsAnswered text (λ store. lines_text (nodes_in rect store)) outcome
 Job (dump base) (text ∷ []) outcome = IsAnswered text lines_text outcome
 Job (build rules base output) (table ∷ text ∷ []) outcome = IsBuilt table text outcome
+Job (change_map rules base hour output changes) (table ∷ text ∷ texts) outcome = IsChanged hour table text texts outcome
 Job (check file) (bytes ∷ []) outcome = IsChecked bytes outcome
 Job asked texts outcome = ⊥
 

@@ -1,3 +1,4 @@
+pub mod HourWords
 pub mod Requests
 pub mod Inputs
 pub mod FileLines

@@ -1,9 +1,11 @@
 -- The words that the program takes: a verb, and then what this verb takes.
-use Rattle.std.specs.Prelude.{List, ℕ, [], ◌∷◌, Option, Some, None, codes, if◌then◌else◌}
+use Rattle.std.specs.Prelude.{List, ℕ, [], ◌∷◌, ◌++◌, Option, Some, None, codes, if◌then◌else◌}
 use Rattle.std.specs.Option.{option_and_then, option_map}
 use Rattle.std.specs.Str.{bytes_eq}
 use Rattle.live_model.specs.declared.points.Rect.{Rect}
 use Rattle.live_model.specs.Points.{rect_of}
+use Rattle.stamp_core.specs.Hours.{CivilHour}
+use Rattle.run_model.specs.HourWords.{hour_of}
 use Rattle.run_model.specs.declared.request.Request.{Request}
 use Rattle.run_model.specs.declared.request.Request.TheVariants as request
 use Rattle.run_model.specs.declared.request.Verb.{Verb}
@@ -14,6 +16,7 @@ pub data Asked : Type 0 where
   nodes : Rect → (base : List ℕ) → Asked
   dump : (base : List ℕ) → Asked
   build : (rules base output : List ℕ) → Asked
+  change_map : (rules base : List ℕ) → (hour : CivilHour) → (output : List ℕ) → (changes : List (List ℕ)) → Asked
   check : (file : List ℕ) → Asked
 
 -- the verb of this name
@@ -22,14 +25,22 @@ verb_of word =
     if bytes_eq word (codes "nodes") then Some verb.Nodes
     else if bytes_eq word (codes "dump") then Some verb.Dump
     else if bytes_eq word (codes "build") then Some verb.Build
+    else if bytes_eq word (codes "change") then Some verb.Change
     else if bytes_eq word (codes "check") then Some verb.Check
     else None
 
--- `nodes RECT BASE`, `dump BASE`, `build RULES BASE OUT` and `check FILE`, by the words after the verb
+-- there is a change at least, and the stamp names an hour
+abbrev pub asked_change : (rules base stamp output : List ℕ) → List (List ℕ) → Option Asked
+asked_change rules base stamp output [] = None
+asked_change rules base stamp output (change ∷ changes) = option_map (λ hour. change_map rules base hour output (change ∷ changes)) (hour_of stamp)
+
+-- `nodes RECT BASE`, `dump BASE`, `build RULES BASE OUT`, `change RULES BASE STAMP OUT CHANGE ..` and `check FILE`, by the words after
+-- the verb
 abbrev pub asked_with : Verb → List (List ℕ) → Option Asked
 asked_with verb.Nodes (rect ∷ base ∷ []) = option_map (λ r. nodes r base) (rect_of rect)
 asked_with verb.Dump (base ∷ []) = Some (dump base)
 asked_with verb.Build (rules ∷ base ∷ output ∷ []) = Some (build rules base output)
+asked_with verb.Change (rules ∷ base ∷ stamp ∷ output ∷ changes) = asked_change rules base stamp output changes
 asked_with verb.Check (file ∷ []) = Some (check file)
 asked_with verb words = None
 
@@ -42,4 +53,5 @@ abbrev pub asked : Request → Asked
 asked (request.Nodes rect base) = nodes rect base.now
 asked (request.Dump base) = dump base.now
 asked (request.Build rules base output) = build rules.now base.now output.now
+asked (request.Change rules base hour output earlier last) = change_map rules.now base.now hour output.now (earlier.now ++ last.now ∷ [])
 asked (request.Check file) = check file.now

@@ -8,32 +8,32 @@ use std::process::Abort;
 use std::test::Fail;
 
 // A file, as the pieces of its bytes.
-struct Pieces {
-    name: &'static str,
-    bytes: &'static [&'static [u8]],
+pub(super) struct Pieces {
+    pub(super) name: &'static str,
+    pub(super) bytes: &'static [&'static [u8]],
 }
 
 // The version, and the first one.
-const VERSION: &[u8] = b"\x08\x02";
+pub(super) const VERSION: &[u8] = b"\x08\x02";
 
 const FIRST_VERSION: &[u8] = b"\x08\x01";
 
 // The heads of a base, and of the hour 2024-02-29-21.
 const BASE: &[u8] = b"\x12\x06\x08\x00\x10\x00\x18\x00";
 
-const HOUR: &[u8] = b"\x12\x0E\x08\x01\x10\x89\xC7\x90\xC5\x07\x18\x89\xC7\x90\xC5\x07";
+pub(super) const HOUR: &[u8] = b"\x12\x0E\x08\x01\x10\x89\xC7\x90\xC5\x07\x18\x89\xC7\x90\xC5\x07";
 
 const NO_RULES: &[u8] = b"\x1A\x00";
 
 const ONE_RULE: &[u8] = b"\x1A\x10point a b 0 map\n";
 
 // The key and the length of the rules of the town.
-const TOWN_RULES_HERE: &[u8] = b"\x1A\xFE\x01";
+pub(super) const TOWN_RULES_HERE: &[u8] = b"\x1A\xFE\x01";
 
-const TOWN_RULES: &[u8] =
+pub(super) const TOWN_RULES: &[u8] =
     b"point amenity cafe 15 poi.cafe\npoint amenity * 16 map\npoint place town 8 place\nline highway residential 14 map\nline highway residential 14 road\nline highway primary 10 map\nline highway primary 10 road\narea building * 15 map\narea leisure park 12 poi.park\n";
 
-const TOWN: &[u8] =
+pub(super) const TOWN: &[u8] =
     b"n1 v1 dV c10 t2024-01-05T10:00:00Z i7 uada Tplace=town,name=Aldorf x13.1 y52.4\nn2 v1 dV Tamenity=cafe,name=Bo%20%Bar x13.1001 y52.4001\nn3 v1 x13.1 y52.4002\nn4 v1 x13.101 y52.4002\nn5 v1 x13.102 y52.4002\nn6 v1 x13.1004 y52.4004\nn7 v1 x13.1006 y52.4004\nn8 v1 x13.1006 y52.4006\nw20 v1 Thighway=residential,name=Stra%df%e Nn3,n4,n5\nw21 v1 Tbuilding=yes,addr:street=Stra%df%e,addr:housenumber=3 Nn6,n7,n8,n6\nw22 v1 Thighway=primary,oneway=yes Nn5,n99\nr30 v1 Ttype=restriction,restriction=no_left_turn Mw20@from,n5@via,w22@to\n";
 
 // The sections of map records: without one, with that of `n1 x0 y0 Ta=b`, and with those of the town.
@@ -67,7 +67,7 @@ const SIX_MARKS: &[u8] =
     b"\x86\x01\x00\x00\x00\x00\x00\x00\x00\x1C\x0A\x1A\xFB\xFF\xFF\xFF\xFF\xFF\x3F\x07\x92\x80\x80\x80\x80\x80\x80\x02\x01\x01\x88\x80\x80\x80\x80\x80\x80\x02";
 
 // The version again.
-const AGAIN: &[u8] = b"\x80\x02\x02";
+pub(super) const AGAIN: &[u8] = b"\x80\x02\x02";
 
 const FIRST_AGAIN: &[u8] = b"\x80\x02\x01";
 
@@ -101,16 +101,16 @@ const HOUR_FILE: &[&[u8]] = &[
 ];
 
 // Words, the files that are there, the one that is written, and what is told.
-struct Row {
-    words: &'static [&'static str],
-    files: &'static [Pieces],
-    written: Option<Pieces>,
-    code: u8,
-    out: &'static str,
-    err: &'static str,
+pub(super) struct Row {
+    pub(super) words: &'static [&'static str],
+    pub(super) files: &'static [Pieces],
+    pub(super) written: Option<Pieces>,
+    pub(super) code: u8,
+    pub(super) out: &'static str,
+    pub(super) err: &'static str,
 }
 
-const BAD_WORDS: &str = "obf: the words are none of the ten forms\n";
+pub(super) const BAD_WORDS: &str = "obf: the words are none of the ten forms\n";
 
 const BUILD: &[&str] = &["build", "r.rules", "b.opl", "out.obf"];
 
@@ -427,7 +427,7 @@ fn check_stays<A: Abort>(
     Ok(())
 }
 
-fn check_row<A: Abort>(rt: &A, alloc: Global, row: &Row) -> Mem<()> {
+pub(super) fn check_row<A: Abort>(rt: &A, alloc: Global, row: &Row) -> Mem<()> {
     let files = stored(alloc, row.files)?;
     let left = run_over(rt, alloc, row.words, files, NO_FAULTS)?;
     check_told(rt, &left, row.words, row.code, row.out, row.err);

@@ -4,6 +4,8 @@
 #[cfg(test)]
 mod files;
 #[cfg(test)]
+mod hours;
+#[cfg(test)]
 mod real;
 #[cfg(test)]
 mod words;

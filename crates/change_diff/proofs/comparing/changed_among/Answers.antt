@@ -16,5 +16,6 @@ loop-id-preserved g c =
       records =
           one_more_records differing made (flat_map made (filter differing c.args.ids.now)) c.loop-id.found.records.items c.put_if_changed.new.found.records.items c.in-Some.id.now c.loop-id.rest.now c.in-Some.others.now first
           c.in_ok-put_if_changed.ensures.records c.loop-id.invariant.records;
+      fit = λ good. c.in_ok-put_if_changed.ensures.fit good (c.loop-id.invariant.fit good);
       counted = let one = ap length first in omega (arith, one, c.in_ok-put_if_changed.ensures.counted, c.loop-id.invariant.counted);
     }

@@ -1,0 +1,202 @@
+//! Map files of one hour: which bytes are written, and what is told.
+
+use crate::files::{
+    AGAIN, BAD_WORDS, HOUR, Pieces, Row, TOWN, TOWN_RULES, TOWN_RULES_HERE, VERSION, check_row,
+};
+use std::test::Fail;
+
+// The head of the hour 2024-02-29-22.
+const NEXT_HOUR: &[u8] = b"\x12\x0E\x08\x01\x10\x8A\xC7\x90\xC5\x07\x18\x8A\xC7\x90\xC5\x07";
+
+// The street, where its middle node has moved, and where it has moved back: its map record, its address and its road.
+const MOVED_RECORDS: &[u8] =
+    b"\x36\x00\x00\x00\x00\x00\x00\x00\x6B\x0E\x00\x00\x00\x00\x00\x00\x00\x1A\x08\xC0\xF1\xE2\x98\x07\x10\x80\x93\xAB\xB2\x01\x18\xC0\x83\xD7\x9A\x07\x20\xB0\x8C\xA5\xB3\x01\x28\x00\x16\x00\x00\x00\x00\x00\x00\x00\x3F\x0E\x00\x00\x00\x00\x00\x00\x00\x09\x0A\x07\x53\x74\x72\x61\xC3\x9F\x65\x12\x2B\x08\x94\x80\x80\x80\x80\x80\xC0\x02\x10\x03\x18\x01\x20\x01\x2A\x1A\x80\xE3\xC5\xB1\x0E\xE0\x98\xCA\xE6\x02\x80\xA4\xE8\x03\xDF\xF2\xF3\x01\xBF\xEB\xE5\x03\xE0\xF2\xF3\x01";
+
+const MOVED_ADDRESSES: &[u8] =
+    b"\x3E\x00\x00\x00\x00\x00\x00\x00\x60\x0E\x00\x00\x00\x00\x00\x00\x00\x4E\x0A\x14\x0A\x07\x73\x74\x72\x61\x73\x73\x65\x12\x07\x73\x74\x72\x61\x73\x73\x65\x18\x00\x16\x00\x00\x00\x00\x00\x00\x00\x2F\x0A\x2D\x08\x94\x80\x80\x80\x80\x80\xC0\x02\x10\x01\x1A\x07\x73\x74\x72\x61\x73\x73\x65\x22\x07\x53\x74\x72\x61\xC3\x9F\x65\x2A\x00\x32\x0A\x80\xF5\xB9\xB3\x0E\xB0\x9F\xD0\xE5\x02\x3A\x00\x16\x00\x00\x00\x00\x00\x00\x00\x00";
+
+const MOVED_ROADS: &[u8] =
+    b"\x4E\x00\x00\x00\x00\x00\x00\x00\x8D\x0E\x00\x00\x00\x00\x00\x00\x00\x72\x0E\x00\x00\x00\x00\x00\x00\x00\x1A\x08\xC0\xF1\xE2\x98\x07\x10\x80\x93\xAB\xB2\x01\x18\xC0\x83\xD7\x9A\x07\x20\xB0\x8C\xA5\xB3\x01\x28\x00\x16\x00\x00\x00\x00\x00\x00\x00\x46\x0E\x00\x00\x00\x00\x00\x00\x00\x0D\x0A\x0B\x72\x65\x73\x69\x64\x65\x6E\x74\x69\x61\x6C\x12\x2E\x08\x94\x80\x80\x80\x80\x80\xC0\x02\x10\x04\x18\x01\x20\x00\x2A\x1D\x06\x80\xE3\xC5\xB1\x0E\xE0\x98\xCA\xE6\x02\x02\x80\xA4\xE8\x03\xDF\xF2\xF3\x01\x02\xBF\xEB\xE5\x03\xE0\xF2\xF3\x01\x16\x00\x00\x00\x00\x00\x00\x00\x09\x0E\x00\x00\x00\x00\x00\x00\x00\x00";
+
+const BACK_RECORDS: &[u8] =
+    b"\x36\x00\x00\x00\x00\x00\x00\x00\x63\x0E\x00\x00\x00\x00\x00\x00\x00\x1A\x08\xC0\xF1\xE2\x98\x07\x10\xB0\x8C\xA5\xB3\x01\x18\xE0\x8D\xE4\x98\x07\x20\xB0\x8C\xA5\xB3\x01\x28\x00\x16\x00\x00\x00\x00\x00\x00\x00\x37\x0E\x00\x00\x00\x00\x00\x00\x00\x09\x0A\x07\x53\x74\x72\x61\xC3\x9F\x65\x12\x23\x08\x94\x80\x80\x80\x80\x80\xC0\x02\x10\x03\x18\x01\x20\x01\x2A\x12\x80\xE3\xC5\xB1\x0E\xE0\x98\xCA\xE6\x02\xA0\x9C\x01\x00\xA0\x9C\x01\x00";
+
+const BACK_ADDRESSES: &[u8] =
+    b"\x3E\x00\x00\x00\x00\x00\x00\x00\x60\x0E\x00\x00\x00\x00\x00\x00\x00\x4E\x0A\x14\x0A\x07\x73\x74\x72\x61\x73\x73\x65\x12\x07\x73\x74\x72\x61\x73\x73\x65\x18\x00\x16\x00\x00\x00\x00\x00\x00\x00\x2F\x0A\x2D\x08\x94\x80\x80\x80\x80\x80\xC0\x02\x10\x01\x1A\x07\x73\x74\x72\x61\x73\x73\x65\x22\x07\x53\x74\x72\x61\xC3\x9F\x65\x2A\x00\x32\x0A\xA0\xFF\xC6\xB1\x0E\xE0\x98\xCA\xE6\x02\x3A\x00\x16\x00\x00\x00\x00\x00\x00\x00\x00";
+
+const BACK_ROADS: &[u8] =
+    b"\x4E\x00\x00\x00\x00\x00\x00\x00\x85\x0E\x00\x00\x00\x00\x00\x00\x00\x6A\x0E\x00\x00\x00\x00\x00\x00\x00\x1A\x08\xC0\xF1\xE2\x98\x07\x10\xB0\x8C\xA5\xB3\x01\x18\xE0\x8D\xE4\x98\x07\x20\xB0\x8C\xA5\xB3\x01\x28\x00\x16\x00\x00\x00\x00\x00\x00\x00\x3E\x0E\x00\x00\x00\x00\x00\x00\x00\x0D\x0A\x0B\x72\x65\x73\x69\x64\x65\x6E\x74\x69\x61\x6C\x12\x26\x08\x94\x80\x80\x80\x80\x80\xC0\x02\x10\x04\x18\x01\x20\x00\x2A\x15\x06\x80\xE3\xC5\xB1\x0E\xE0\x98\xCA\xE6\x02\x02\xA0\x9C\x01\x00\x02\xA0\x9C\x01\x00\x16\x00\x00\x00\x00\x00\x00\x00\x09\x0E\x00\x00\x00\x00\x00\x00\x00\x00";
+
+const NO_POIS: &[u8] = b"\x46\x00\x00\x00\x00\x00\x00\x00\x00";
+
+// The mark of the street.
+const STREET_MARK: &[u8] =
+    b"\x86\x01\x00\x00\x00\x00\x00\x00\x00\x0A\x0A\x08\x94\x80\x80\x80\x80\x80\xC0\x02";
+
+const RULES: Pieces = Pieces {
+    name: "r.rules",
+    bytes: &[TOWN_RULES],
+};
+
+const BASE: Pieces = Pieces {
+    name: "b.opl",
+    bytes: &[TOWN],
+};
+
+const MOVE: Pieces = Pieces {
+    name: "c1.opl",
+    bytes: &[b"n4 v2 x13.5 y52.6"],
+};
+
+const BACK: Pieces = Pieces {
+    name: "c2.opl",
+    bytes: &[b"n4 v3 x13.101 y52.4002"],
+};
+
+static ROWS: [Row; 6] = [
+    // a way is marked whose node moved, and the node is not
+    Row {
+        words: &[
+            "change",
+            "r.rules",
+            "b.opl",
+            "2024-02-29-21",
+            "out.obf",
+            "c1.opl",
+        ],
+        files: &[RULES, BASE, MOVE],
+        written: Some(Pieces {
+            name: "out.obf",
+            bytes: &[
+                VERSION,
+                HOUR,
+                TOWN_RULES_HERE,
+                TOWN_RULES,
+                MOVED_RECORDS,
+                MOVED_ADDRESSES,
+                NO_POIS,
+                MOVED_ROADS,
+                STREET_MARK,
+                AGAIN,
+            ],
+        }),
+        code: 0,
+        out: "hour 2024-02-29-21 2024-02-29-21 1 3\n",
+        err: "",
+    },
+    // the first change is in the base of the second
+    Row {
+        words: &[
+            "change",
+            "r.rules",
+            "b.opl",
+            "2024-02-29-22",
+            "out.obf",
+            "c1.opl",
+            "c2.opl",
+        ],
+        files: &[RULES, BASE, MOVE, BACK],
+        written: Some(Pieces {
+            name: "out.obf",
+            bytes: &[
+                VERSION,
+                NEXT_HOUR,
+                TOWN_RULES_HERE,
+                TOWN_RULES,
+                BACK_RECORDS,
+                BACK_ADDRESSES,
+                NO_POIS,
+                BACK_ROADS,
+                STREET_MARK,
+                AGAIN,
+            ],
+        }),
+        code: 0,
+        out: "hour 2024-02-29-22 2024-02-29-22 1 3\n",
+        err: "",
+    },
+    // the second change is missing, and the third is broken
+    Row {
+        words: &[
+            "change",
+            "r.rules",
+            "b.opl",
+            "2024-02-29-22",
+            "out.obf",
+            "c1.opl",
+            "c2.opl",
+            "c3.opl",
+        ],
+        files: &[
+            RULES,
+            BASE,
+            MOVE,
+            Pieces {
+                name: "c3.opl",
+                bytes: &[b"w7 Nn1,n2x1y2"],
+            },
+        ],
+        written: None,
+        code: 4,
+        out: "",
+        err: "obf: cannot read c2.opl\n",
+    },
+    // a change has a break, under its own name
+    Row {
+        words: &[
+            "change",
+            "r.rules",
+            "b.opl",
+            "2024-02-29-22",
+            "out.obf",
+            "c1.opl",
+            "c3.opl",
+        ],
+        files: &[
+            RULES,
+            BASE,
+            MOVE,
+            Pieces {
+                name: "c3.opl",
+                bytes: &[b"w7 Nn1,n2x1y2"],
+            },
+        ],
+        written: None,
+        code: 3,
+        out: "",
+        err: "obf: c3.opl: LocatedRef at 3\n",
+    },
+    // the calendar has no such hour
+    Row {
+        words: &[
+            "change",
+            "r.rules",
+            "b.opl",
+            "2023-02-29-22",
+            "out.obf",
+            "c1.opl",
+        ],
+        files: &[RULES, BASE, MOVE],
+        written: None,
+        code: 2,
+        out: "",
+        err: BAD_WORDS,
+    },
+    // there is no change
+    Row {
+        words: &["change", "r.rules", "b.opl", "2024-02-29-22", "out.obf"],
+        files: &[RULES, BASE],
+        written: None,
+        code: 2,
+        out: "",
+        err: BAD_WORDS,
+    },
+];
+
+#[test]
+fn rows_of_changes(rt: HostRuntime) -> Result<(), Fail> {
+    for row in ROWS.iter() {
+        check_row(&rt, rt.alloc(), row)?;
+    }
+    Ok(())
+}
