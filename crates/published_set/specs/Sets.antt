@@ -1,5 +1,7 @@
 -- How a set whose lines and images are shared is seen: as plain records, without their owners.
-use Rattle.std.specs.Prelude.{◌≡◌, ◌⊎◌, ℕ, ◌<◌, ◌≤◌, List, [], ◌∷◌, Option, Some, length, map}
+use Rattle.std.specs.Prelude.{◌≡◌, ℕ, ◌+◌, List, [], ◌∷◌, Bool, Option, Some, drop, length, map, slice_get}
+use Rattle.std.specs.List.{prefix_len}
+use Rattle.std.specs.Option.{option_and_then}
 use Rattle.std.specs.Arc.{arc_value}
 use Rattle.live_model.specs.declared.levels.Level.{Level}
 use Rattle.live_model.specs.declared.objects.Line.{Line}
@@ -7,6 +9,8 @@ use Rattle.overlay_set.specs.Sets.{Entry, Image, MapFile, State, images_of}
 use Rattle.overlay_set.specs.Periods.{Period, places_of}
 use Rattle.overlay_set.specs.Standing.{Stands}
 use Rattle.overlay_set.specs.Swaps.{common_rules}
+use Rattle.overlay_set.specs.Loose.{before_loose, begins_in, period_before}
+use Rattle.stamp_core.specs.Hours.{CivilHour}
 use Rattle.stamp_core.specs.declared.head.Head.{Head}
 use Rattle.obf_reader.specs.Images.{Seen}
 use Rattle.published_set.specs.Images.{image_of}
@@ -44,3 +48,15 @@ pub record IsFoundAt (found : Option Period) (files : List MapFile) (from to : �
   pub is : found ≡ Some period
   pub places : places_of period files ≡ (from, to)
   pub level_is : period.level ≡ level
+
+-- the first hour of the head at a place, if there is one
+abbrev pub hour_at : List Head → ℕ → Option CivilHour
+hour_at heads n = option_and_then (λ head. head.first) (slice_get heads n)
+
+-- from one place up to another stand the files of the first period that is loose, which begins with a file of this hour
+pub record IsLooseAt (whole : Bool) (last : CivilHour) (heads : List Head) (from to : ℕ) (level : Level) : Type 0 where
+  pub hour : CivilHour
+  pub begins : hour_at heads from ≡ Some hour
+  pub from_is : from ≡ before_loose whole last heads
+  pub to_is : to ≡ from + prefix_len (begins_in (period_before last hour)) (drop from heads)
+  pub level_is : level ≡ (period_before last hour).level

@@ -1,21 +1,48 @@
 //! Days and months of a set, told by the heads of its files and the last hour.
 
-ghost use Rattle.std.specs.Prelude.{◌≡◌, map, Some};
+ghost use Rattle.std.specs.Prelude.{◌≡◌, ◌≤◌, length, map, MatchOption, Some};
 ghost use Rattle.std.specs.Arc.{arc_value};
 ghost use Rattle.std.specs.List.{prefix_len};
 ghost use Rattle.overlay_set.specs.Periods.{stretch, is_past};
 ghost use Rattle.overlay_set.specs.Loose.{begins_in, before_loose, is_loose, is_loose_at, next_begins_in, period_before};
-ghost use Rattle.published_set.specs.Sets.{heads_in};
+ghost use Rattle.published_set.specs.Sets.{heads_in, hour_at, IsLooseAt};
 
 use live_model::Level;
 use obf_reader::Image;
 use stamp_core::{Head, Stamp};
 use std::sync::Arc;
 
+/// Where the files of the first day or month stand that is loose, the place behind the last one, and its level: one that has two
+/// files or more, or, where whole folds are wanted, that is not one file of its level. `None` exactly where there is none.
+pub fn first_loose(whole: bool, last: &Stamp, images: &[Arc<Image>]) -> Option<(usize, usize, Level)>
+    ensures { MatchOption result (before_loose whole last.now (heads_in (map arc_value images.now)) ≡ length images.now) (λ r. IsLooseAt whole last.now (heads_in (map arc_value images.now)) r.0 r.1 r.2) }
+{
+    let from = before_loose(whole, last, images);
+    match hour_at(images, from) {
+        None => None,
+        Some(hour) => {
+            let level = level_before(last, &hour);
+            let count = count_in(level, &hour, &images[from..]);
+            Some((from, from + count, level))
+        }
+    }
+}
+
+/// The first hour of the file at a place.
+fn hour_at(images: &[Arc<Image>], index: usize) -> Option<Stamp>
+    ensures { result ≡ hour_at (heads_in (map arc_value images.now)) index }
+{
+    match images.get(index) {
+        None => None,
+        Some(image) => image.head().first,
+    }
+}
+
 /// How many files stand before the first that is loose: one that has not its whole day or month for itself, or, where whole folds
 /// are wanted, is not of the level of its day or month. As many as there are where none is loose.
-pub fn before_loose(whole: bool, last: &Stamp, images: &[Arc<Image>]) -> usize
-    ensures { result ≡ before_loose whole last.now (heads_in (map arc_value images.now)) }
+fn before_loose(whole: bool, last: &Stamp, images: &[Arc<Image>]) -> usize
+    ensures count { result ≡ before_loose whole last.now (heads_in (map arc_value images.now)) }
+    ensures inside { result ≤ length images.now }
 {
     let mut count = 0;
     let mut rest = images;
@@ -30,8 +57,9 @@ pub fn before_loose(whole: bool, last: &Stamp, images: &[Arc<Image>]) -> usize
 }
 
 /// How many files, from the first on, begin in the same hour, day or month as this hour.
-pub fn count_in(level: Level, hour: &Stamp, images: &[Arc<Image>]) -> usize
-    ensures { result ≡ prefix_len (begins_in (record { level = level; hour = hour.now })) (heads_in (map arc_value images.now)) }
+fn count_in(level: Level, hour: &Stamp, images: &[Arc<Image>]) -> usize
+    ensures count { result ≡ prefix_len (begins_in (record { level = level; hour = hour.now })) (heads_in (map arc_value images.now)) }
+    ensures inside { result ≤ length images.now }
 {
     let mut count = 0;
     let mut rest = images;
@@ -46,7 +74,7 @@ pub fn count_in(level: Level, hour: &Stamp, images: &[Arc<Image>]) -> usize
 }
 
 /// The level at which a publication of this hour is kept in the end, where the history ends with the other.
-pub fn level_before(last: &Stamp, hour: &Stamp) -> Level
+fn level_before(last: &Stamp, hour: &Stamp) -> Level
     ensures { result ≡ (period_before last.now hour.now).level }
 {
     if is_past(Level::Month, hour, last) {
