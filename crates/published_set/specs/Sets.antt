@@ -5,6 +5,7 @@ use Rattle.std.specs.Option.{option_and_then}
 use Rattle.std.specs.Arc.{arc_value}
 use Rattle.live_model.specs.declared.levels.Level.{Level}
 use Rattle.live_model.specs.declared.objects.Line.{Line}
+use Rattle.live_model.specs.declared.rules.Rule.{Rule}
 use Rattle.overlay_set.specs.Sets.{Entry, Image, MapFile, State, images_of}
 use Rattle.overlay_set.specs.Periods.{Period, places_of}
 use Rattle.overlay_set.specs.Standing.{Stands}
@@ -38,9 +39,13 @@ pub record PublishedSet : Type 0 where
   pub base : List Line
   pub state : State
 
--- it stands over its base lines, with the rules of its base
+-- the rules of its base
+abbrev pub rules_of : PublishedSet → List Rule
+rules_of s = common_rules (images_of s.state.files)
+
+-- it stands over its base lines with these rules
 abbrev pub IsStanding : PublishedSet → Type 0
-IsStanding s = Stands (common_rules (images_of s.state.files)) s.base s.state
+IsStanding s = Stands (rules_of s) s.base s.state
 
 -- the period was found, and its files are those from one place up to another, which is no more among them
 pub record IsFoundAt (found : Option Period) (files : List MapFile) (from to : ℕ) (level : Level) : Type 0 where

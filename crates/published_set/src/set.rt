@@ -1,19 +1,30 @@
 //! The set.
 
-ghost use Rattle.std.specs.Prelude.{◌≡◌, ◌↔◌, IsTrue, MatchOption, None, map};
+ghost use Rattle.std.specs.Prelude.{◌≡◌, ◌↔◌, ◌+◌, ◌<◌, ◌≤◌, [], IfOk, IsTrue, MatchOption, None, length, map};
 ghost use Rattle.std.specs.Arc.{arc_value};
-ghost use Rattle.overlay_set.specs.Sets.{last_in, numbers_of, images_of, stamps_of};
+ghost use Rattle.live_model.specs.Stores.{IsStore, apply};
+ghost use Rattle.overlay_set.specs.Sets.{age, base_image, greatest, images_of, last_in, numbers_of, opening, stamps_of};
+ghost use Rattle.overlay_set.specs.Swaps.{Add, Takes, applied};
+ghost use Rattle.overlay_set.specs.SetLaws.{AreGood};
 ghost use Rattle.overlay_set.specs.Periods.{foldable, shrinkable};
 ghost use Rattle.overlay_set.specs.Loose.{loose_period};
-ghost use Rattle.published_set.specs.Sets.{IsFoundAt, IsStanding, entry_of, images_in};
+ghost use Rattle.published_set.specs.Images.{image_of};
+ghost use Rattle.published_set.specs.Sets.{IsFoundAt, IsStanding, entry_of, images_in, rules_of};
 
 use crate::entry::Published;
 use crate::periods::first_loose;
-use live_model::{Level, Lines};
+use live_model::{Level, Lines, Mem};
 use obf_reader::Image;
 use stamp_core::Stamp;
+use std::alloc::Global;
 use std::marker::Model;
 use std::sync::Arc;
+
+/// The most publications of a set.
+const MOST_ENTRIES: usize = 65_536;
+
+/// The most files of a set.
+const MOST_FILES: usize = 1_024;
 
 /// A set of map files over a history of publications, which share their images and lines with other sets. It is seen as its base
 /// lines, its history and its files, each under its number. It has room for 65,536 publications and 1,024 files.
@@ -39,6 +50,40 @@ impl Model for OverlaySet {
 }
 
 impl OverlaySet {
+    /// The set of a base alone, under the number 0, with the lines that the base was made of.
+    pub fn new(alloc: Global, base_lines: Arc<Lines>, base: Arc<Image>) -> Mem<OverlaySet>
+        requires { image_of (arc_value base) ≡ base_image (arc_value base).rules (arc_value base_lines) }
+        ensures set { IfOk result (λ set. set ≡ record { base = arc_value base_lines; state = opening (arc_value base).rules (arc_value base_lines) }) }
+        ensures standing { IfOk result IsStanding }
+    {
+        let history = Vec::with_capacity(alloc, MOST_ENTRIES)?;
+        let mut numbers = Vec::with_capacity(alloc, MOST_FILES)?;
+        let mut images = Vec::with_capacity(alloc, MOST_FILES)?;
+        numbers.push_reserved(0);
+        images.push_reserved(base);
+        Ok(OverlaySet {
+            base_lines,
+            history,
+            numbers,
+            images,
+        })
+    }
+
+    /// Adds a publication and the hour file of its overlay, which gets the number above the greatest of the set. It takes no memory.
+    pub fn add(&mut self, published: Published, image: Arc<Image>)
+        requires standing { IsStanding self.old }
+        requires entries { length self.old.state.history < 65536 }
+        requires files { length self.old.state.files < 1024 }
+        requires takes { Takes (rules_of self.old) self.old.base self.old.state (Add (entry_of published) (image_of (arc_value image))) }
+        ensures set { self.new ≡ record { base = self.old.base; state = applied self.old.state (Add (entry_of published) (image_of (arc_value image))) } }
+        ensures standing { IsStore (apply [] self.old.base) → AreGood self.old.state.history → IsStanding self.new }
+    {
+        let number = self.next_number();
+        self.history.push_reserved(published);
+        self.numbers.push_reserved(number);
+        self.images.push_reserved(image);
+    }
+
     /// The publications, in the order of their hours.
     pub fn history(&self) -> &[Published]
         ensures { map entry_of result.now ≡ self.now.state.history }
@@ -88,6 +133,14 @@ impl OverlaySet {
         self.foldable().is_none()
     }
 
+    /// The number above the greatest.
+    fn next_number(&self) -> u64
+        requires { IsStanding self.now × (length self.now.state.history ≤ 65536) }
+        ensures { result ≡ age self.now.state + 1 }
+    {
+        greatest(self.numbers.as_slice()) + 1
+    }
+
     fn first_loose(&self, whole: bool) -> Option<(usize, usize, Level)>
         requires { IsStanding self.now }
         ensures { MatchOption result (loose_period whole self.now.state ≡ None) (λ r. IsFoundAt (loose_period whole self.now.state) self.now.state.files r.0 r.1 r.2) }
@@ -107,4 +160,19 @@ fn last_hour(history: &[Published]) -> Option<Stamp>
         None => None,
         Some(last) => Some(last.stamp),
     }
+}
+
+/// The greatest of numbers, and 0 where there are none.
+fn greatest(numbers: &[u64]) -> u64
+    ensures { result ≡ greatest numbers.now }
+{
+    let mut found = 0;
+    let mut rest = numbers;
+    while let [number, after @ ..] = rest {
+        if found < *number {
+            found = *number;
+        }
+        rest = after;
+    }
+    found
 }
