@@ -1,5 +1,5 @@
 -- Heads tell which period is not yet one file.
-use Rattle.std.proofs.Common.{◌≡◌, ◌≢◌, ℕ, suc, ◌+◌, ◌<◌, ◌≤◌, ◌⊎◌, Bool, true, false, cond, ◌&&◌, ◌||◌, not, ◌==◌, nat_le, nat_lt, List, [], ◌∷◌, ◌++◌, length, map, drop, flat_map, find, filter, Option, Some, None, slice_get, refl, sym, ap, ap₂, subst, ◌∙◌, inl, inr, ⊎_elim, append_assoc, length-append, nat_cmp, Less, arith}
+use Rattle.std.proofs.Common.{◌≡◌, ◌≢◌, ℕ, suc, ◌+◌, ◌<◌, ◌≤◌, ◌⊎◌, Bool, true, false, cond, ◌&&◌, ◌||◌, not, ◌==◌, nat_le, nat_lt, List, [], ◌∷◌, ◌++◌, length, map, drop, take, flat_map, find, filter, Option, Some, None, slice_get, refl, sym, ap, ap₂, subst, ◌∙◌, inl, inr, ⊎_elim, append_assoc, length-append, nat_cmp, Less, arith}
 use Rattle.std.specs.List.{AllByRecursion, last_or, list_any, prefix_len, take_while}
 use Rattle.std.proofs.lemmas.Bool.Decides.{nat_tests}
 use Rattle.std.proofs.lemmas.List.Sums.{take_while-cons}
@@ -134,6 +134,25 @@ front_files p (f ∷ fs) s all = go (is_file_of p f) refl (front_files p fs s.1 
         some_is : {A : Type 0} {a b : A} → Some a ≡ Some b → a ≡ b
         some_is e = cc
 
+-- and are just those
+front_taken : (p : Period) (fs : List MapFile) → AreSorted fs → AllByRecursion (λ f. (hour : CivilHour) × (f.image.head.first ≡ Some hour) × (number_of p.hour ≤ number_of hour)) fs
+    → files_in p fs ≡ take (prefix_len (begins_in p) (heads_of fs)) fs
+front_taken p [] s all = refl
+front_taken p (f ∷ fs) s all = go (is_file_of p f) refl (front_taken p fs s.1 all.1)
+  where
+    go : (b : Bool) → is_file_of p f ≡ b → files_in p fs ≡ take (prefix_len (begins_in p) (heads_of fs)) fs
+        → cond b (f ∷ files_in p fs) (files_in p fs) ≡ take (cond b (1 + prefix_len (begins_in p) (heads_of fs)) 0) (f ∷ fs)
+    go true e ih =
+        let next : suc (prefix_len (begins_in p) (heads_of fs)) ≡ 1 + prefix_len (begins_in p) (heads_of fs) = omega arith in
+        ap (λ l. f ∷ l) ih ∙ ap (λ (n : ℕ). take n (f ∷ fs)) next
+    go false e ih =
+        let hour : is_within p.level p.hour all.0.0 ≡ false = ap (is_hour_of p) (sym all.0.1) ∙ e in
+        let same : s.0.0 ≡ all.0.0 = some_is (sym s.0.1 ∙ all.0.1) in
+        later_files p (number_of all.0.0) fs (subst (λ (h : CivilHour). AllByRecursion (Begins (number_of h)) fs) same s.0.2) (λ h lt. outside_on p all.0.0 h all.0.2 hour (omega (arith, lt)))
+      where
+        some_is : {A : Type 0} {a b : A} → Some a ≡ Some b → a ≡ b
+        some_is e = cc
+
 -- The walk along the files.
 
 -- what makes a period loose
@@ -201,6 +220,7 @@ record Walk (whole : Bool) (last : CivilHour) (files front bs : List MapFile) (f
   some : (head : Head) (hour : CivilHour) → slice_get (heads_of bs) k ≡ Some head → head.first ≡ Some hour
       → (found ≡ Some (period_before last hour))
       × (places_of (period_before last hour) files ≡ (length front + k, length front + k + prefix_len (begins_in (period_before last hour)) (drop k (heads_of bs))))
+      × (files_in (period_before last hour) files ≡ take (prefix_len (begins_in (period_before last hour)) (drop k (heads_of bs))) (drop k bs))
 
 -- one file further on
 step : (whole : Bool) (last : CivilHour) (files front : List MapFile) (b : MapFile) (bs : List MapFile) (found : Option Period) (k : ℕ)
@@ -211,6 +231,7 @@ step whole last files front b bs found k w = subst (Walk whole last files front 
       let rest = w.some head hour e f in (
         rest.0,
         subst (λ (n : ℕ). places_of (period_before last hour) files ≡ (n, n + prefix_len (begins_in (period_before last hour)) (drop k (heads_of bs)))) (omega (arith, length-append front (b ∷ []))) rest.1,
+        rest.2,
       );
 })
   where
@@ -386,9 +407,13 @@ module _ (whole : Bool) (rules : List Rule) (history : List Entry) (files : List
       loose_so : is_loose whole last b.image.head (heads_of bs) ≡ (not (level_number (settled_level history x.stamp) == 1) && fails whole files (kept_in history x))
       loose_so = loose_is b x (heads_of bs) first ∙ ap (λ t. not (level_number (settled_level history x.stamp) == 1) && t) (sym fails_so)
 
-      place : places_of (kept_in history x) files ≡ (length front, length front + prefix_len (begins_in (kept_in history x)) (heads_of (b ∷ bs)))
-      place = ap₂ (λ (m n : ℕ). (m, m + n)) (ap length (ap (take_while (λ f. not (is_file_of (kept_in history x) f))) there ∙ (none_behind history x front (b ∷ bs) behind).1 ∙ ap (λ l. front ++ l) stop) ∙ all_front)
-          (ap length (ap (files_in (kept_in history x)) there ∙ (none_behind history x front (b ∷ bs) behind).0) ∙ front_files (kept_in history x) (b ∷ bs) in_order from_here)
+      place : (places_of (kept_in history x) files ≡ (length front, length front + prefix_len (begins_in (kept_in history x)) (heads_of (b ∷ bs))))
+          × (files_in (kept_in history x) files ≡ take (prefix_len (begins_in (kept_in history x)) (heads_of (b ∷ bs))) (b ∷ bs))
+      place = (
+        ap₂ (λ (m n : ℕ). (m, m + n)) (ap length (ap (take_while (λ f. not (is_file_of (kept_in history x) f))) there ∙ (none_behind history x front (b ∷ bs) behind).1 ∙ ap (λ l. front ++ l) stop) ∙ all_front)
+            (ap length (ap (files_in (kept_in history x)) there ∙ (none_behind history x front (b ∷ bs) behind).0) ∙ front_files (kept_in history x) (b ∷ bs) in_order from_here),
+        ap (files_in (kept_in history x)) there ∙ (none_behind history x front (b ∷ bs) behind).0 ∙ front_taken (kept_in history x) (b ∷ bs) in_order from_here,
+      )
         where
           stop : take_while (λ f. not (is_file_of (kept_in history x) f)) (b ∷ bs) ≡ []
           stop = take_while-cons (λ f. not (is_file_of (kept_in history x) f)) b bs ∙ pick (is_file_of (kept_in history x) b) (ap (is_hour_of (kept_in history x)) first ∙ own)
@@ -421,11 +446,14 @@ module _ (whole : Bool) (rules : List Rule) (history : List Entry) (files : List
         some = λ head hour e f.
             let same : hour ≡ x.stamp = some_is (sym f ∙ ap (λ (h : Head). h.first) (sym (some_is e)) ∙ first) in
             subst (λ (h : CivilHour). (find (fails whole files) (flat_map (period_of history) (cut_by (goes history) ((x ∷ xs) ++ flat_map (λ x. x) rs))) ≡ Some (period_before last h))
-            × (places_of (period_before last h) files ≡ (length front + 0, length front + 0 + prefix_len (begins_in (period_before last h)) (drop 0 (heads_of (b ∷ bs)))))) (sym same)
+            × (places_of (period_before last h) files ≡ (length front + 0, length front + 0 + prefix_len (begins_in (period_before last h)) (drop 0 (heads_of (b ∷ bs)))))
+            × (files_in (period_before last h) files ≡ take (prefix_len (begins_in (period_before last h)) (drop 0 (heads_of (b ∷ bs)))) (drop 0 (b ∷ bs)))) (sym same)
             (subst (λ (p : Period). (find (fails whole files) (flat_map (period_of history) (cut_by (goes history) ((x ∷ xs) ++ flat_map (λ x. x) rs))) ≡ Some p)
-            × (places_of p files ≡ (length front + 0, length front + 0 + prefix_len (begins_in p) (drop 0 (heads_of (b ∷ bs)))))) (told x) (
+            × (places_of p files ≡ (length front + 0, length front + 0 + prefix_len (begins_in p) (drop 0 (heads_of (b ∷ bs)))))
+            × (files_in p files ≡ take (prefix_len (begins_in p) (drop 0 (heads_of (b ∷ bs)))) (drop 0 (b ∷ bs)))) (told x) (
               found_first x (xs ++ flat_map (λ x. x) rs) (left (not (level_number (settled_level history x.stamp) == 1)) (sym loose_so ∙ loose)) (right (not (level_number (settled_level history x.stamp) == 1)) (sym loose_so ∙ loose)),
-              subst (λ (n : ℕ). places_of (kept_in history x) files ≡ (n, n + prefix_len (begins_in (kept_in history x)) (heads_of (b ∷ bs)))) (omega arith) place,
+              subst (λ (n : ℕ). places_of (kept_in history x) files ≡ (n, n + prefix_len (begins_in (kept_in history x)) (heads_of (b ∷ bs)))) (omega arith) place.0,
+              place.1,
             ));
       }
         where
@@ -484,6 +512,7 @@ heads_law whole rules base s last st ends =
       some = λ head hour e f. (
         (named.some head hour e f).0,
         subst (λ (n : ℕ). places_of (period_before last hour) s.files ≡ (n, n + prefix_len (begins_in (period_before last hour)) (drop (before_loose whole last (heads_of s.files)) (heads_of s.files)))) (omega arith) (named.some head hour e f).1,
+        (named.some head hour e f).2,
       );
     }
   where

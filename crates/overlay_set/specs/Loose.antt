@@ -1,5 +1,5 @@
 -- Which files are not yet as they will be kept in the end, told by heads alone.
-use Rattle.std.specs.Prelude.{◌≡◌, ℕ, ◌+◌, List, [], ◌∷◌, length, map, drop, Bool, true, false, ◌&&◌, ◌||◌, not, ◌==◌, Option, Some, None, if◌then◌else◌, slice_get}
+use Rattle.std.specs.Prelude.{◌≡◌, ℕ, ◌+◌, List, [], ◌∷◌, length, map, drop, take, Bool, true, false, ◌&&◌, ◌||◌, not, ◌==◌, Option, Some, None, if◌then◌else◌, slice_get}
 use Rattle.std.specs.List.{prefix_len}
 use Rattle.live_model.specs.declared.levels.Level.{Level}
 use Rattle.live_model.specs.declared.levels.Level.TheVariants.{Hour, Day, Month}
@@ -9,7 +9,7 @@ use Rattle.live_model.specs.Levels.{level_number}
 use Rattle.stamp_core.specs.Hours.{CivilHour}
 use Rattle.stamp_core.specs.declared.head.Head.{Head}
 use Rattle.overlay_set.specs.Sets.{MapFile, State, stamps_of, last_in}
-use Rattle.overlay_set.specs.Periods.{Period, is_past, is_hour_of, foldable, shrinkable, places_of}
+use Rattle.overlay_set.specs.Periods.{Period, is_past, is_hour_of, files_in, foldable, shrinkable, places_of}
 use Rattle.overlay_set.specs.Standing.{Stands}
 
 -- what files cover
@@ -58,6 +58,7 @@ pub record IsTold (whole : Bool) (last : CivilHour) (s : State) (from : ℕ) : T
   pub some : (head : Head) (hour : CivilHour) → slice_get (heads_of s.files) from ≡ Some head → head.first ≡ Some hour
       → (loose_period whole s ≡ Some (period_before last hour))
       × (places_of (period_before last hour) s.files ≡ (from, from + prefix_len (begins_in (period_before last hour)) (drop from (heads_of s.files))))
+      × (files_in (period_before last hour) s.files ≡ take (prefix_len (begins_in (period_before last hour)) (drop from (heads_of s.files))) (drop from s.files))
 
 -- heads tell it
 abbrev pub HeadsLaw : Type 0

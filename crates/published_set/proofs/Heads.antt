@@ -1,6 +1,9 @@
 -- What heads tell of a set that stands.
-use Rattle.std.proofs.Common.{◌≡◌, ℕ, zero, suc, ◌+◌, ◌≤◌, Bool, true, false, cond, List, [], ◌∷◌, length, map, drop, Option, Some, None, slice_get, refl, sym, ap, ap₂, subst, ◌∙◌, arith}
-use Rattle.std.specs.List.{last_or, prefix_len}
+use Rattle.std.proofs.Common.{◌≡◌, ℕ, zero, suc, ◌+◌, ◌-◌, ◌≤◌, Bool, true, false, cond, List, [], ◌∷◌, length, map, drop, take, Option, Some, None, slice_get, refl, sym, inl, inr, ap, ap₂, subst, ◌∙◌, arith}
+use Rattle.std.specs.List.{last_or, prefix_len, slice_range}
+use Rattle.std.proofs.lemmas.List.{length-drop}
+use Rattle.std.proofs.lemmas.List.Sums.{prefix_len-le-length}
+use Rattle.std.proofs.lemmas.Option.{slice_get_within}
 use Rattle.std.specs.Option.{option_and_then}
 use Rattle.live_model.specs.declared.levels.Level.{Level}
 use Rattle.live_model.specs.declared.objects.Line.{Line}
@@ -14,8 +17,15 @@ use Rattle.overlay_set.specs.Loose.{IsTold, before_loose, begins_in, heads_of, i
 use Rattle.std.specs.Prelude.{MatchOption}
 use Rattle.obf_reader.specs.Images.{Seen}
 use Rattle.published_set.proofs.Files.{files_length, heads_are}
+use Rattle.overlay_set.specs.Swaps.{FoldPlan, Fits}
+use Rattle.overlay_set.proofs.Planning.{plan_law, shrink_law}
 use Rattle.overlay_set.proofs.Walking.{heads_law}
-use Rattle.published_set.specs.Sets.{IsFoundAt, IsLooseAt, IsStanding, files_of, heads_in, hour_at, images_in}
+use Rattle.published_set.specs.Sets.{IsFoundAt, IsLooseAt, IsLoosePeriod, IsStanding, files_of, heads_in, hour_at, images_in}
+
+-- the plan of a loose period fits
+pub loose_fits : (rules : List Rule) (base : List Line) (s : State) (from to : ℕ) (level : Level) → Stands rules base s → IsLoosePeriod s from to level → Fits (record { files = slice_range s.files from to; level = level }) s
+loose_fits rules base s from to level st (inl f) = subst (λ (plan : FoldPlan). Fits plan s) (ap₂ (λ fs l. record { files = fs; level = l }) f.whole f.level_is) (plan_law rules base s f.period st f.is)
+loose_fits rules base s from to level st (inr f) = subst (λ (plan : FoldPlan). Fits plan s) (ap₂ (λ fs l. record { files = fs; level = l }) f.whole f.level_is) (shrink_law rules base s f.period st f.is)
 
 -- where no file with an hour stands at the place of the first loose file, there is none
 pub no_loose : (whole : Bool) (last : CivilHour) (heads : List Head) → hour_at heads (before_loose whole last heads) ≡ None → before_loose whole last heads ≡ length heads
@@ -44,15 +54,36 @@ pub found_none : (whole : Bool) (rules : List Rule) (base : List Line) (s : Stat
     → before_loose whole last (heads_of s.files) ≡ length s.files → loose_period whole s ≡ None
 found_none whole rules base s last st ends none = (heads_law whole rules base s last st ends).none none
 
+heads_count : (files : List MapFile) → length (heads_of files) ≡ length files
+heads_count [] = refl
+heads_count (f ∷ fs) = omega (arith, heads_count fs)
+
+-- the places of a loose period are places of files
+pub within : (s : State) (from to : ℕ) (level : Level) → IsLoosePeriod s from to level → (from ≤ to) × (to ≤ length s.files)
+within s from to level (inl f) = (f.order, f.inside)
+within s from to level (inr f) = (f.order, f.inside)
+
 pub found_at : (whole : Bool) (rules : List Rule) (base : List Line) (s : State) (last : CivilHour) (from to : ℕ) (level : Level) → Stands rules base s → last_in (stamps_of s.history) ≡ Some last
     → IsLooseAt whole last (heads_of s.files) from to level → IsFoundAt (loose_period whole s) s.files from to level
 found_at whole rules base s last from to level st ends at =
     let found = head_at (heads_of s.files) from at.hour at.begins in
-    let told = (heads_law whole rules base s last st ends).some found.0 at.hour (subst (λ (n : ℕ). slice_get (heads_of s.files) n ≡ Some found.0) at.from_is found.1) found.2 in record {
+    let told = (heads_law whole rules base s last st ends).some found.0 at.hour (subst (λ (n : ℕ). slice_get (heads_of s.files) n ≡ Some found.0) at.from_is found.1) found.2 in
+    let count : ℕ → ℕ = λ n. prefix_len (begins_in (period_before last at.hour)) (drop n (heads_of s.files)) in
+    let room : from + count from ≤ length s.files = omega (
+      arith,
+      prefix_len-le-length (begins_in (period_before last at.hour)) (drop from (heads_of s.files)),
+      length-drop from (heads_of s.files),
+      slice_get_within (heads_of s.files) from found.0 found.1,
+      heads_count s.files,
+    ) in
+    let size : count from ≡ to - from = omega (arith, at.to_is) in record {
       period = period_before last at.hour;
       is = told.0;
-      places = told.1 ∙ sym (ap₂ (λ (m n : ℕ). (m, n)) at.from_is (at.to_is ∙ ap (λ (n : ℕ). n + prefix_len (begins_in (period_before last at.hour)) (drop n (heads_of s.files))) at.from_is));
+      places = told.1 ∙ sym (ap₂ (λ (m n : ℕ). (m, n)) at.from_is (at.to_is ∙ ap (λ (n : ℕ). n + count n) at.from_is));
       level_is = sym at.level_is;
+      order = omega (arith, at.to_is);
+      inside = omega (arith, at.to_is, room);
+      whole = told.2 ∙ ap (λ (n : ℕ). take (count n) (drop n s.files)) (sym at.from_is) ∙ ap (λ (n : ℕ). take n (drop from s.files)) size;
     }
 
 some_in : (xs : List Entry) (x : Entry) → last_or (Some x.stamp) (stamps_of xs) ≡ None → ⊥

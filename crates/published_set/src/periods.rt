@@ -14,7 +14,11 @@ use std::sync::Arc;
 
 /// Where the files of the first day or month stand that is loose, the place behind the last one, and its level: one that has two
 /// files or more, or, where whole folds are wanted, that is not one file of its level. `None` exactly where there is none.
-pub fn first_loose(whole: bool, last: &Stamp, images: &[Arc<Image>]) -> Option<(usize, usize, Level)>
+pub fn first_loose(
+    whole: bool,
+    last: &Stamp,
+    images: &[Arc<Image>],
+) -> Option<(usize, usize, Level)>
     ensures { MatchOption result (before_loose whole last.now (heads_in (map arc_value images.now)) ≡ length images.now) (λ r. IsLooseAt whole last.now (heads_in (map arc_value images.now)) r.0 r.1 r.2) }
 {
     let from = before_loose(whole, last, images);

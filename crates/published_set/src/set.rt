@@ -1,18 +1,20 @@
 //! The set.
 
-ghost use Rattle.std.specs.Prelude.{◌≡◌, ◌↔◌, ◌+◌, ◌<◌, ◌≤◌, [], IfOk, IsTrue, MatchOption, None, length, map};
+ghost use Rattle.std.specs.Prelude.{◌≡◌, ◌↔◌, ◌+◌, ◌<◌, ◌≤◌, [], IfOk, IsTrue, MatchOption, None, length, map, slice_range};
 ghost use Rattle.std.specs.Arc.{arc_value};
 ghost use Rattle.live_model.specs.Stores.{IsStore, apply};
 ghost use Rattle.overlay_set.specs.Sets.{age, base_image, greatest, images_of, last_in, numbers_of, opening, stamps_of};
-ghost use Rattle.overlay_set.specs.Swaps.{Add, Takes, applied};
+ghost use Rattle.overlay_set.specs.Swaps.{Add, Fits, Takes, applied};
 ghost use Rattle.overlay_set.specs.SetLaws.{AreGood};
 ghost use Rattle.overlay_set.specs.Periods.{foldable, shrinkable};
 ghost use Rattle.overlay_set.specs.Loose.{loose_period};
 ghost use Rattle.published_set.specs.Images.{image_of};
-ghost use Rattle.published_set.specs.Sets.{IsFoundAt, IsStanding, entry_of, images_in, rules_of};
+ghost use Rattle.published_set.specs.Sets.{IsFoundAt, IsLoosePeriod, IsStanding, entry_of, images_in, rules_of};
 
+use crate::copies::{copy_history, copy_images, copy_numbers, images_between, numbers_between};
 use crate::entry::Published;
 use crate::periods::first_loose;
+use crate::plan::FoldPlan;
 use live_model::{Level, Lines, Mem};
 use obf_reader::Image;
 use stamp_core::Stamp;
@@ -131,6 +133,35 @@ impl OverlaySet {
         ensures { IsTrue result ↔ (foldable self.now.state ≡ None) }
     {
         self.foldable().is_none()
+    }
+
+    /// The plan to fold the files from a place up to another into one of this level: those of a day or month that is to be folded or
+    /// can be shrunk.
+    pub fn plan(&self, alloc: Global, from: usize, to: usize, level: Level) -> Mem<FoldPlan>
+        requires standing { IsStanding self.now }
+        requires found { IsLoosePeriod self.now.state from to level }
+        ensures plan { IfOk result (λ plan. plan ≡ record { files = slice_range self.now.state.files from to; level = level }) }
+        ensures fits { IfOk result (λ plan. Fits plan self.now.state) }
+    {
+        let numbers = numbers_between(alloc, self.numbers.as_slice(), from, to)?;
+        let images = images_between(alloc, self.images.as_slice(), from, to)?;
+        Ok(FoldPlan::of(numbers, images, level))
+    }
+
+    /// The same set, with further owners of its lines and images, and with the same room.
+    pub fn copy(&self, alloc: Global) -> Mem<OverlaySet>
+        ensures { IfOk result (λ copied. copied ≡ self.now) }
+    {
+        let base_lines = Arc::try_clone(&self.base_lines)?;
+        let history = copy_history(alloc, self.history.as_slice(), MOST_ENTRIES)?;
+        let numbers = copy_numbers(alloc, self.numbers.as_slice(), MOST_FILES)?;
+        let images = copy_images(alloc, self.images.as_slice(), MOST_FILES)?;
+        Ok(OverlaySet {
+            base_lines,
+            history,
+            numbers,
+            images,
+        })
     }
 
     /// The number above the greatest.

@@ -22,6 +22,6 @@ returns-in-Some c = record {
   from_is = c.before_loose-from.ensures.count;
   to_is = ap (λ (n : ℕ). c.before_loose-from.result + n) (c.count_in-count.ensures.count
       ∙ ap₂ (λ (p : Period) (heads : List Head). prefix_len (begins_in p) heads) (ap (λ (l : Level). record { level = l; hour = c.in-Some.hour }) c.level_before-level.ensures)
-          (heads_from arc_value c.before_loose-from.result c.args.images.now));
+      (heads_from arc_value c.before_loose-from.result c.args.images.now));
   level_is = c.level_before-level.ensures;
 }

@@ -20,11 +20,14 @@ push_reserved-requires-3 c =
 pub returns-clause-set : goal.returns-clause-set
 returns-clause-set c =
     let viewed = state_added arc_value c.self.inside.history.items c.args.published c.self.inside.numbers.items c.self.inside.images.items c.next_number-number.result c.args.image c.self.invariant.0
-        (subst (λ (s : PublishedSet). c.next_number-number.result ≡ age s.state + 1) (sym c.self.view_is) c.next_number-number.ensures) in
-    subst (λ (s : PublishedSet). record { base = arc_value c.self.inside.base_lines; state = record {
-      history = map entry_of c.push_reserved.new.self.items;
-      files = files_of c.push_reserved-2.new.self.items (images_in (map arc_value c.push_reserved-3.new.self.items));
-    } } ≡ record { base = s.base; state = applied s.state (Add (entry_of c.args.published) (image_of (arc_value c.args.image))) }) c.self.view_is
+    (subst (λ (s : PublishedSet). c.next_number-number.result ≡ age s.state + 1) (sym c.self.view_is) c.next_number-number.ensures) in
+    subst (λ (s : PublishedSet). record {
+      base = arc_value c.self.inside.base_lines;
+      state = record {
+        history = map entry_of c.push_reserved.new.self.items;
+        files = files_of c.push_reserved-2.new.self.items (images_in (map arc_value c.push_reserved-3.new.self.items));
+      };
+    } ≡ record { base = s.base; state = applied s.state (Add (entry_of c.args.published) (image_of (arc_value c.args.image))) }) c.self.view_is
     (ap (λ (state : State). record { base = arc_value c.self.inside.base_lines; state = state })
     (ap (λ items. record { history = map entry_of items; files = files_of c.push_reserved-2.new.self.items (images_in (map arc_value c.push_reserved-3.new.self.items)) }) c.push_reserved.ensures.items
     ∙ ap₂ (λ numbers images. record { history = map entry_of (c.self.inside.history.items ++ c.args.published ∷ []); files = files_of numbers (images_in (map arc_value images)) }) c.push_reserved-2.ensures.items c.push_reserved-3.ensures.items ∙ viewed))
