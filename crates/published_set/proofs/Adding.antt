@@ -1,10 +1,9 @@
 -- A set with one publication and one file more.
-use Rattle.std.proofs.Common.{◌≡◌, ℕ, ◌+◌, ◌*◌, ◌<◌, ◌≤◌, ◌^◌, List, [], ◌∷◌, ◌++◌, length, map, refl, sym, ap, ap₂, subst, ◌∙◌, arith}
-use Rattle.live_model.specs.declared.objects.Line.{Line}
+use Rattle.std.proofs.Common.{◌≡◌, ℕ, ◌+◌, ◌<◌, ◌≤◌, List, [], ◌∷◌, ◌++◌, length, map, refl, sym, ap, ap₂, subst, ◌∙◌, arith}
 use Rattle.live_model.specs.declared.rules.Rule.{Rule}
 use Rattle.live_model.specs.Stores.{IsStore, apply}
 use Rattle.obf_reader.specs.Images.{Seen}
-use Rattle.overlay_set.specs.Sets.{Entry, Image, MapFile, State, age, images_of}
+use Rattle.overlay_set.specs.Sets.{Entry, Image, MapFile, age, images_of}
 use Rattle.overlay_set.specs.Standing.{Stands}
 use Rattle.overlay_set.specs.Swaps.{Add, Takes, applied, common_rules}
 use Rattle.overlay_set.specs.SetLaws.{AreGood}

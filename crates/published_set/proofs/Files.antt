@@ -1,8 +1,7 @@
 -- Numbers, images and heads of files that are kept apart.
-use Rattle.std.proofs.Common.{◌≡◌, ℕ, zero, suc, ◌+◌, ◌-◌, ◌<◌, ◌≤◌, List, [], ◌∷◌, length, map, drop, take, get_or, Option, Some, None, slice_get, refl, sym, ap, ap₂, subst, ◌∙◌, arith}
-use Rattle.std.specs.List.{last_or, slice_range}
+use Rattle.std.proofs.Common.{◌≡◌, ℕ, zero, suc, ◌-◌, ◌<◌, ◌≤◌, List, [], ◌∷◌, length, map, drop, take, get_or, Some, None, slice_get, refl, sym, ap, ap₂, subst, ◌∙◌, arith}
+use Rattle.std.specs.List.{slice_range}
 use Rattle.std.proofs.lemmas.List.{length-drop}
-use Rattle.stamp_core.specs.Hours.{CivilHour}
 use Rattle.obf_reader.specs.Images.{Seen}
 use Rattle.overlay_set.specs.Sets.{Image, numbers_of, images_of, stamps_of, last_in}
 use Rattle.overlay_set.specs.Loose.{heads_of}

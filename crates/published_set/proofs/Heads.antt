@@ -1,5 +1,5 @@
 -- What heads tell of a set that stands.
-use Rattle.std.proofs.Common.{◌≡◌, ℕ, zero, suc, ◌+◌, ◌-◌, ◌≤◌, Bool, true, false, cond, List, [], ◌∷◌, length, map, drop, take, Option, Some, None, slice_get, refl, sym, inl, inr, ap, ap₂, subst, ◌∙◌, arith}
+use Rattle.std.proofs.Common.{◌≡◌, ℕ, suc, ◌+◌, ◌-◌, ◌≤◌, Bool, true, false, cond, List, [], ◌∷◌, length, drop, take, Option, Some, None, slice_get, refl, sym, inl, inr, ap, ap₂, subst, ◌∙◌, arith}
 use Rattle.std.specs.List.{last_or, prefix_len, slice_range}
 use Rattle.std.proofs.lemmas.List.{length-drop}
 use Rattle.std.proofs.lemmas.List.Sums.{prefix_len-le-length}
@@ -11,9 +11,8 @@ use Rattle.live_model.specs.declared.rules.Rule.{Rule}
 use Rattle.stamp_core.specs.Hours.{CivilHour}
 use Rattle.stamp_core.specs.declared.head.Head.{Head}
 use Rattle.overlay_set.specs.Sets.{Entry, MapFile, State, last_in, stamps_of}
-use Rattle.overlay_set.specs.Periods.{Period, places_of}
 use Rattle.overlay_set.specs.Standing.{Stands}
-use Rattle.overlay_set.specs.Loose.{IsTold, before_loose, begins_in, heads_of, is_loose, is_loose_at, loose_period, period_before}
+use Rattle.overlay_set.specs.Loose.{before_loose, begins_in, heads_of, is_loose, is_loose_at, loose_period, period_before}
 use Rattle.std.specs.Prelude.{MatchOption}
 use Rattle.obf_reader.specs.Images.{Seen}
 use Rattle.published_set.proofs.Files.{files_length, heads_are}

@@ -1,14 +1,14 @@
 -- What an image stands for is what its file holds.
-use Rattle.std.proofs.Common.{◌≡◌, ◌<◌, ◌≤◌, ◌/◌, ◌%◌, ◌^◌, ◌*◌, ◌+◌, ◌-◌, ℕ, zero, suc, Bool, true, false, cond, ◌==◌, nat_le, List, [], ◌∷◌, map, Option, Some, None, Ok, refl, sym, ap, ap₂, subst, ◌∙◌, arith}
-use Rattle.std.specs.Prelude.{ℤ, pos, negsuc, ◌&&◌}
+use Rattle.std.proofs.Common.{◌≡◌, ◌<◌, ◌≤◌, ◌/◌, ◌%◌, ◌^◌, ◌*◌, ◌+◌, ◌-◌, ℕ, Bool, true, false, cond, ◌==◌, nat_le, List, [], ◌∷◌, map, None, Ok, refl, sym, ap, ap₂, subst, ◌∙◌, arith}
+use Rattle.std.specs.Prelude.{pos, negsuc}
 use Rattle.std.specs.List.{list_all}
 use Rattle.std.proofs.lemmas.Bool.{and_parts}
 use Rattle.std.proofs.lemmas.Bool.Decides.{nat_tests}
 use Rattle.live_model.specs.declared.records.Rec.{Rec}
 use Rattle.live_model.specs.declared.rules.Rule.{Rule}
-use Rattle.live_model.specs.Ids.{Id, ordinal, rank, lifted_by}
+use Rattle.live_model.specs.Ids.{ordinal, rank, lifted_by}
 use Rattle.file_grammar.specs.BoxRules.{is_ordinal}
-use Rattle.file_grammar.specs.Files.{FileParts, HeadNumbers, IsFile, file_in, file_records, head_numbers, version_of, whole}
+use Rattle.file_grammar.specs.Files.{HeadNumbers, IsFile, head_numbers, version_of, whole}
 use Rattle.file_grammar.specs.declared.parts.Version.{Version}
 use Rattle.file_grammar.specs.declared.parts.Part.TheVariants.{File}
 use Rattle.file_grammar.proofs.SpelledIsRead.{spelled_is_read}

@@ -1,4 +1,4 @@
-use Rattle.std.proofs.Common.{◌≡◌, map, ℕ, ◌+◌, ◌≤◌, length}
+use Rattle.std.proofs.Common.{◌≡◌, map, ◌+◌, length}
 use Rattle.std.specs.Arc.{arc_value}
 use Rattle.overlay_set.specs.Loose.{before_loose}
 use Rattle.published_set.specs.Sets.{heads_in}

@@ -1,4 +1,4 @@
-use Rattle.std.proofs.Common.{◌≡◌, map, ℕ, ◌+◌, ◌≤◌, length}
+use Rattle.std.proofs.Common.{◌≡◌, map, ◌+◌, length}
 use Rattle.std.specs.Arc.{arc_value}
 use Rattle.std.specs.List.{prefix_len}
 use Rattle.overlay_set.specs.Loose.{begins_in}

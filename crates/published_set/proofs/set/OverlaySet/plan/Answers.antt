@@ -1,10 +1,10 @@
-use Rattle.std.proofs.Common.{◌≡◌, ℕ, ◌+◌, ◌≤◌, List, length, map, sym, ap, ap₂, subst, ◌∙◌, arith}
+use Rattle.std.proofs.Common.{◌≡◌, ℕ, ◌≤◌, List, length, map, sym, ap, subst, ◌∙◌, arith}
 use Rattle.std.specs.List.{slice_range}
 use Rattle.std.specs.Arc.{arc_value}
 use Rattle.overlay_set.specs.Sets.{MapFile, State}
 use Rattle.overlay_set.specs.Swaps.{FoldPlan, Fits}
 use Rattle.published_set.specs.Sets.{IsLoosePeriod, PublishedSet, entry_of, files_of, images_in, rules_of}
-use Rattle.published_set.proofs.Files.{as_many, files_copied, files_length, seen_length}
+use Rattle.published_set.proofs.Files.{files_copied, files_length, seen_length}
 use Rattle.published_set.proofs.Heads.{loose_fits, within}
 use Rattle.published_set.proofs.set.OverlaySet.plan.Goals as goal
 
