@@ -42,42 +42,42 @@ two_pass test front a b back ta tb =
     pick true ex false ey = absurd cc
     pick false ex y ey = absurd cc
 
+pub either : (n : ℕ) → (2 ≤ n) ⊎ (n < 2)
+either n = grind arith
+
+-- the entries of a run are kept at one level, in one stretch of it
+pub one_kept : (history : List Entry) (level : Level) (x : Entry) (xs : List Entry) → IsRunOf level history (x ∷ xs) → IsAmong x history
+    → AllByRecursion (λ e. stretch (settled_level history x.stamp) e.stamp ≡ stretch (settled_level history x.stamp) x.stamp) (x ∷ xs)
+one_kept history level x xs run here = ⊎_elim
+    (λ (high : 2 ≤ level_number (settled_level history x.stamp)).
+    let q = period_for history x here high in
+    let is : IsPeriodOf history q.period = of_all (IsPeriodOf history) (periods history) q.period (periods_are history) q.among in
+    same_all q.period q.level q.inside (x ∷ xs) (alike history q.period level x xs is run))
+    (λ (low : level_number (settled_level history x.stamp) < 2). alone level (low_level history level x xs x run (inl refl) low) run) (either (level_number (settled_level history x.stamp)))
+  where
+    same_all : (p : Period) → p.level ≡ settled_level history x.stamp → is_within p.level p.hour x.stamp ≡ true → (es : List Entry)
+        → AllByRecursion (λ e. is_within p.level p.hour e.stamp ≡ is_within p.level p.hour x.stamp) es
+        → AllByRecursion (λ e. stretch (settled_level history x.stamp) e.stamp ≡ stretch (settled_level history x.stamp) x.stamp) es
+    same_all p lv inside [] all = tt
+    same_all p lv inside (e ∷ es) all =
+        let yes : is_within p.level p.hour e.stamp ≡ true = all.0 ∙ inside in
+        let both : stretch p.level e.stamp ≡ stretch p.level x.stamp = grind (arith, nat_tests) in
+        (subst (λ l. stretch l e.stamp ≡ stretch l x.stamp) lv both, same_all p lv inside es all.1)
+
+    alone : (level : Level) → level ≡ Hour → IsRunOf level history (x ∷ xs) → AllByRecursion (λ e. stretch (settled_level history x.stamp) e.stamp ≡ stretch (settled_level history x.stamp) x.stamp) (x ∷ xs)
+    alone level lv run = single xs (subst (λ l. IsRunOf l history (x ∷ xs)) lv run)
+      where
+        single : (xs : List Entry) → length (x ∷ xs) ≡ 1 → AllByRecursion (λ e. stretch (settled_level history x.stamp) e.stamp ≡ stretch (settled_level history x.stamp) x.stamp) (x ∷ xs)
+        single [] n = (refl, tt)
+        single (y ∷ ys) n = absurd (omega (arith, n))
+
+pub kept_all : (history : List Entry) (x : Entry) (es : List Entry) → AllByRecursion (λ e. stretch (settled_level history x.stamp) e.stamp ≡ stretch (settled_level history x.stamp) x.stamp) es
+    → AreOf history (settled_level history x.stamp) (stretch (settled_level history x.stamp) x.stamp) es
+kept_all history x [] all = tt
+kept_all history x (e ∷ es) all = ((settled_same history x.stamp e.stamp (sym all.0), all.0), kept_all history x es all.1)
+
 module _ (rules : List Rule) (history : List Entry) (files : List MapFile) (rising : AreRising history)
     (few : AllByRecursion (λ p. nat_le 2 (length (files_in p files)) ≡ false) (periods history)) where
-  either : (n : ℕ) → (2 ≤ n) ⊎ (n < 2)
-  either n = grind arith
-
-  -- the entries of a run are kept at one level, in one stretch of it
-  one_kept : (level : Level) (x : Entry) (xs : List Entry) → IsRunOf level history (x ∷ xs) → IsAmong x history
-      → AllByRecursion (λ e. stretch (settled_level history x.stamp) e.stamp ≡ stretch (settled_level history x.stamp) x.stamp) (x ∷ xs)
-  one_kept level x xs run here = ⊎_elim
-      (λ (high : 2 ≤ level_number (settled_level history x.stamp)).
-      let q = period_for history x here high in
-      let is : IsPeriodOf history q.period = of_all (IsPeriodOf history) (periods history) q.period (periods_are history) q.among in
-      same_all q.period q.level q.inside (x ∷ xs) (alike history q.period level x xs is run))
-      (λ (low : level_number (settled_level history x.stamp) < 2). alone level (low_level history level x xs x run (inl refl) low) run) (either (level_number (settled_level history x.stamp)))
-    where
-      same_all : (p : Period) → p.level ≡ settled_level history x.stamp → is_within p.level p.hour x.stamp ≡ true → (es : List Entry)
-          → AllByRecursion (λ e. is_within p.level p.hour e.stamp ≡ is_within p.level p.hour x.stamp) es
-          → AllByRecursion (λ e. stretch (settled_level history x.stamp) e.stamp ≡ stretch (settled_level history x.stamp) x.stamp) es
-      same_all p lv inside [] all = tt
-      same_all p lv inside (e ∷ es) all =
-          let yes : is_within p.level p.hour e.stamp ≡ true = all.0 ∙ inside in
-          let both : stretch p.level e.stamp ≡ stretch p.level x.stamp = grind (arith, nat_tests) in
-          (subst (λ l. stretch l e.stamp ≡ stretch l x.stamp) lv both, same_all p lv inside es all.1)
-
-      alone : (level : Level) → level ≡ Hour → IsRunOf level history (x ∷ xs) → AllByRecursion (λ e. stretch (settled_level history x.stamp) e.stamp ≡ stretch (settled_level history x.stamp) x.stamp) (x ∷ xs)
-      alone level lv run = single xs (subst (λ l. IsRunOf l history (x ∷ xs)) lv run)
-        where
-          single : (xs : List Entry) → length (x ∷ xs) ≡ 1 → AllByRecursion (λ e. stretch (settled_level history x.stamp) e.stamp ≡ stretch (settled_level history x.stamp) x.stamp) (x ∷ xs)
-          single [] n = (refl, tt)
-          single (y ∷ ys) n = absurd (omega (arith, n))
-
-  kept_all : (x : Entry) (es : List Entry) → AllByRecursion (λ e. stretch (settled_level history x.stamp) e.stamp ≡ stretch (settled_level history x.stamp) x.stamp) es
-      → AreOf history (settled_level history x.stamp) (stretch (settled_level history x.stamp) x.stamp) es
-  kept_all x [] all = tt
-  kept_all x (e ∷ es) all = ((settled_same history x.stamp e.stamp (sym all.0), all.0), kept_all x es all.1)
-
   -- two neighbouring files do not begin in one stretch
   parted_at : (front : List MapFile) (a b : MapFile) (back : List MapFile) → files ≡ front ++ (a ∷ b ∷ back) → (x y : Entry) (xs ys : List Entry) → a.image.head ≡ run_head a.image.head.level (x ∷ xs)
       → b.image.head ≡ run_head b.image.head.level (y ∷ ys) → IsAmong x history → number_of x.stamp < number_of y.stamp → stretch (settled_level history x.stamp) x.stamp ≢ stretch (settled_level history x.stamp) y.stamp
@@ -110,7 +110,7 @@ module _ (rules : List Rule) (history : List Entry) (files : List MapFile) (risi
       let there : IsAmong x history = subst (IsAmong x) (sym here) (among_right before ((x ∷ xs) ++ flat_map (λ x. x) rs) x (inl refl)) in
       let rises : AreRising ((x ∷ xs) ++ flat_map (λ x. x) rs) = rising_right before ((x ∷ xs) ++ flat_map (λ x. x) rs) (subst AreRising here rising) in
       let stops : Stops (settled_level history x.stamp) (stretch (settled_level history x.stamp) x.stamp) (flat_map (λ x. x) rs) = stop bs rs all held.1 rises head there in
-      cut_run history (settled_level history x.stamp) (stretch (settled_level history x.stamp) x.stamp) x xs (flat_map (λ x. x) rs) (kept_all x (x ∷ xs) (one_kept b.image.head.level x xs held.0.covers there)) stops
+      cut_run history (settled_level history x.stamp) (stretch (settled_level history x.stamp) x.stamp) x xs (flat_map (λ x. x) rs) (kept_all history x (x ∷ xs) (one_kept history b.image.head.level x xs held.0.covers there)) stops
       ∙ ap (λ l. (x ∷ xs) ∷ l) rest
     where
       stop : (cs : List MapFile) (qs : List (List Entry)) → files ≡ front ++ (b ∷ cs) → AreFilesOf rules history (published store (lines_of (x ∷ xs))) qs (images_of cs)

@@ -18,4 +18,5 @@ pub mod Answering
 pub mod Filling
 pub mod Ageing
 pub mod Stretches
+pub mod Walking
 pub mod Laws

@@ -52,7 +52,7 @@ among_left [] ys x h = absurd h
 among_left (z ∷ zs) ys x (inl e) = inl e
 among_left (z ∷ zs) ys x (inr h) = inr (among_left zs ys x h)
 
-one_period : (history : List Entry) (e : Entry) (run : List Entry) → IsAmong e history → AllByRecursion (IsPeriodOf history) (period_of history (e ∷ run))
+pub one_period : (history : List Entry) (e : Entry) (run : List Entry) → IsAmong e history → AllByRecursion (IsPeriodOf history) (period_of history (e ∷ run))
 one_period history e run among = go (is_closed Month history e.stamp) refl (is_closed Day history e.stamp) refl
   where
     go : (m : Bool) → is_closed Month history e.stamp ≡ m → (d : Bool) → is_closed Day history e.stamp ≡ d

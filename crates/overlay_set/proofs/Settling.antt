@@ -73,7 +73,7 @@ record RunFor (history : List Entry) (hour : CivilHour) (runs : List (List Entry
   among : IsAmong run runs
   begins : BeginsFor history hour run
 
-cut_head : (t : Entry → Entry → Bool) (x : Entry) (xs : List Entry) → (run : List Entry) × (runs : List (List Entry)) × (cut_by t (x ∷ xs) ≡ (x ∷ run) ∷ runs)
+pub cut_head : (t : Entry → Entry → Bool) (x : Entry) (xs : List Entry) → (run : List Entry) × (runs : List (List Entry)) × (cut_by t (x ∷ xs) ≡ (x ∷ run) ∷ runs)
 cut_head t x xs = go (cut_by t xs)
   where
     go : (runs : List (List Entry)) → (run : List Entry) × (rest : List (List Entry)) × (put_before t x runs ≡ (x ∷ run) ∷ rest)

@@ -5,3 +5,4 @@ pub mod Swaps
 pub mod SetLaws
 pub mod Machines
 pub mod MachineLaws
+pub mod Loose

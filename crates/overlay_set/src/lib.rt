@@ -15,6 +15,7 @@
 #![tactic(auto)]
 
 ghost use Rattle.overlay_set.specs.SetLaws.{AnswerLaw, FitsLaterLaw, FullLaw, JournalLaw, JournalStandsLaw, LaterChainLaw, LaterSelfLaw, NumberLaw, OpeningLaw, PlanLaw, SameAgeLaw, SettledLaw, ShownLaw, ShrinkLaw, SwapLaw};
+ghost use Rattle.overlay_set.specs.Loose.{HeadsLaw};
 ghost use Rattle.overlay_set.specs.MachineLaws.{EventsLaw, OpenedLaw, StepLaw};
 
 /// That later is an order on sets: each is the later of itself, and what is later than a later one is later. The set after
@@ -59,4 +60,10 @@ pub fn machines_stand()
     ensures opened { OpenedLaw }
     ensures step { StepLaw }
     ensures events { EventsLaw }
+{}
+
+/// That the heads of the files and the last hour tell which period is first to be folded or shrunk, and where its files stand.
+/// There is nothing to run.
+pub fn heads_tell_what_is_loose()
+    ensures { HeadsLaw }
 {}

@@ -1,0 +1,4 @@
+pub mod Images
+pub mod Files
+pub mod Heads
+pub mod Adding

@@ -1,0 +1,87 @@
+//! Plans to fold files into one, and folds that were made.
+
+ghost use Rattle.std.specs.Prelude.{◌≡◌, length, map};
+ghost use Rattle.std.specs.Arc.{arc_value};
+ghost use Rattle.overlay_set.specs.Sets.{images_of};
+ghost use Rattle.overlay_set.specs.Swaps.{fold_image};
+ghost use Rattle.published_set.specs.Images.{image_of};
+ghost use Rattle.published_set.specs.Sets.{files_of, images_in};
+
+use live_model::Level;
+use obf_reader::Image;
+use std::marker::Model;
+use std::sync::Arc;
+
+/// Files that are to become one of this level. It is seen as the files, each under its number, and the level.
+#[derive(Drop)]
+pub struct FoldPlan {
+    numbers: Vec<u64>,
+    images: Vec<Arc<Image>>,
+    level: Level,
+}
+
+impl Model for FoldPlan {
+    ghost use Rattle.std.specs.Prelude.{◌≡◌, length, map};
+    ghost use Rattle.std.specs.Arc.{arc_value};
+    ghost use Rattle.overlay_set.specs.Swaps.{FoldPlan as Plan};
+    ghost use Rattle.published_set.specs.Sets.{files_of, images_in};
+
+    ghost Value = { Plan };
+
+    ghost view = { λ plan. record { files = files_of plan.numbers.items (images_in (map arc_value plan.images.items)); level = plan.level } };
+
+    ghost invariant = { λ plan. length plan.numbers.items ≡ length plan.images.items };
+}
+
+impl FoldPlan {
+    /// The plan of these numbers, each with its image.
+    pub(crate) fn of(numbers: Vec<u64>, images: Vec<Arc<Image>>, level: Level) -> FoldPlan
+        requires { length numbers.items ≡ length images.items }
+        ensures { result ≡ record { files = files_of numbers.items (images_in (map arc_value images.items)); level = level } }
+    {
+        FoldPlan {
+            numbers,
+            images,
+            level,
+        }
+    }
+
+    /// The images that are to be folded, in their order.
+    pub fn images(&self) -> &[Arc<Image>]
+        ensures { images_in (map arc_value result.now) ≡ images_of self.now.files }
+    {
+        self.images.as_slice()
+    }
+
+    /// The level of the fold.
+    pub fn level(&self) -> Level
+        ensures { result ≡ self.now.level }
+    {
+        self.level
+    }
+
+    /// The plan with the fold of its images. It takes no memory.
+    pub fn finish(self, image: Arc<Image>) -> FoldWork
+        requires { image_of (arc_value image) ≡ fold_image self.level (images_of self.files) }
+        ensures { result ≡ record { plan = self; image = fold_image self.level (images_of self.files) } }
+    {
+        FoldWork { plan: self, image }
+    }
+}
+
+/// A plan with the fold of its images, ready to be put in the place of its files. It is seen as the two.
+#[derive(Drop)]
+pub struct FoldWork {
+    plan: FoldPlan,
+    image: Arc<Image>,
+}
+
+impl Model for FoldWork {
+    ghost use Rattle.std.specs.Arc.{arc_value};
+    ghost use Rattle.published_set.specs.Images.{image_of};
+    ghost use Rattle.published_set.specs.Sets.{Work};
+
+    ghost Value = { Work };
+
+    ghost view = { λ work. record { plan = work.plan; image = image_of (arc_value work.image) } };
+}
