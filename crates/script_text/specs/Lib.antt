@@ -1,3 +1,4 @@
 pub mod Names
 pub mod Readings
 pub mod Scripts
+pub mod StepLaw

@@ -1,6 +1,6 @@
 //! The fields of a script line, each read for itself.
 
-ghost use Rattle.std.specs.Prelude.{◌≡◌, ◌≢◌, ◌≤◌, [], Some, None, IfSome, IfOk, IfErr, IsTrue};
+ghost use Rattle.std.specs.Prelude.{◌≡◌, ◌≢◌, ◌<◌, ◌≤◌, [], length, Some, None, IfSome, IfOk, IfErr, IsTrue};
 ghost use Rattle.std.specs.Str.{is_utf8};
 ghost use Rattle.line_texts.specs.declared.errors.LineError.TheVariants.{Broken};
 ghost use Rattle.script_text.specs.Scripts.{lane_of, name_of, verb_of};
@@ -55,7 +55,7 @@ pub(crate) fn broken(at: usize, kind: ScriptKind) -> ScriptError
 
 /// The name that a field spells, reported at its place where it spells none.
 pub(crate) fn name_in(alloc: Global, field: &Field<'_>) -> Result<Text, ScriptError>
-    requires some { field.now.bytes.now ≢ [] }
+    requires some { 0 < length field.now.bytes.now }
     requires text { IsTrue (is_utf8 field.now.bytes.now) }
     ensures name { IfOk result (λ name. name_of field.now.bytes.now ≡ Some name) }
     ensures some { IfOk result (λ name. name ≢ []) }

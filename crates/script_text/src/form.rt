@@ -24,9 +24,10 @@ pub struct ScriptForm;
 
 impl LineForm for ScriptForm {
     ghost use Rattle.script_text.specs.Scripts.{IsStep, script_form};
-    ghost use Rattle.script_text.proofs.StepLaw.{steps_are_exact};
+    ghost use Rattle.script_text.specs.StepLaw.{steps_are_exact};
 
     type Item = Step;
+
     type Kind = ScriptKind;
 
     ghost form = { script_form };
@@ -74,7 +75,7 @@ fn is_text(bytes: &[u8]) -> bool
 }
 
 /// The step that the fields of a line spell.
-#[tactic(auto, using(crate::proofs::Fields::texts_after))]
+#[tactic(auto, using(crate::proofs::LineFields::texts_after))]
 fn read_step(alloc: Global, row: &[u8]) -> Result<Step, ScriptError>
     requires short { length row.now < 2 ^ 63 }
     requires texts { AreTexts (fields_from 0 row.now) }
@@ -121,13 +122,8 @@ fn read_what(
 }
 
 /// An hour and a name.
-#[tactic(auto, using(crate::proofs::Fields::texts_after, crate::proofs::Fields::text_first))]
-fn read_publication(
-    alloc: Global,
-    at: usize,
-    bytes: &[u8],
-    end: usize,
-) -> Result<What, ScriptError>
+#[tactic(auto, using(crate::proofs::LineFields::texts_after, crate::proofs::LineFields::text_first))]
+fn read_publication(alloc: Global, at: usize, bytes: &[u8], end: usize) -> Result<What, ScriptError>
     requires within { at + length bytes.now ≤ end }
     requires short { end < 2 ^ 63 }
     requires texts { AreTexts (fields_from at bytes.now) }
@@ -152,12 +148,7 @@ fn read_publication(
 }
 
 /// A question.
-fn read_question(
-    alloc: Global,
-    at: usize,
-    bytes: &[u8],
-    end: usize,
-) -> Result<What, ScriptError>
+fn read_question(alloc: Global, at: usize, bytes: &[u8], end: usize) -> Result<What, ScriptError>
     requires within { at + length bytes.now ≤ end }
     requires short { end < 2 ^ 63 }
     requires texts { AreTexts (fields_from at bytes.now) }
