@@ -6,6 +6,10 @@ use Rattle.text_pieces.specs.Lines.{fields_from}
 use Rattle.query_text.specs.Reading.{AreTexts}
 use Rattle.tag_rules.proofs.Texts.{fields_are_texts}
 
--- those after the first are UTF-8
-pub texts_after : (at : ℕ) (bytes : List ℕ) (first : ℕ × List ℕ) (fields : List (ℕ × List ℕ)) → IsUtf8 bytes → fields_from at bytes ≡ first ∷ fields → AreTexts fields
-texts_after at bytes first fields utf8 e = (subst AreTexts e (fields_are_texts at bytes (is_utf8-from_IsUtf8 bytes utf8))).1
+-- all of them are UTF-8
+pub all_texts : (at : ℕ) (bytes : List ℕ) → IsUtf8 bytes → AreTexts (fields_from at bytes)
+all_texts at bytes utf8 = fields_are_texts at bytes (is_utf8-from_IsUtf8 bytes utf8)
+
+-- those after the first are
+pub texts_after : (at : ℕ) (bytes : List ℕ) (first : ℕ × List ℕ) (fields : List (ℕ × List ℕ)) → AreTexts (fields_from at bytes) → fields_from at bytes ≡ first ∷ fields → AreTexts fields
+texts_after at bytes first fields all e = (subst AreTexts e all).1

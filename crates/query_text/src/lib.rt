@@ -15,5 +15,5 @@ mod rows;
 
 pub use answers::put_answer;
 pub use errors::QueryError;
-pub use queries::read_query;
+pub use queries::{read_fields, read_query};
 pub use rows::put_row;

@@ -5,7 +5,7 @@ ghost use Rattle.std.specs.Option.{option_map};
 ghost use Rattle.text_pieces.specs.Lines.{fields_from};
 ghost use Rattle.live_model.specs.declared.queries.Query.TheVariants.{Prefix, Street as StreetQuery};
 ghost use Rattle.live_model.specs.Points.{IsRect, rect_from_fields};
-ghost use Rattle.live_model.specs.QueryTexts.{IsQuery, category_from, query_named, query_of, text_from, view_from};
+ghost use Rattle.live_model.specs.QueryTexts.{IsQuery, category_from, query_from, query_named, query_of, text_from, view_from};
 ghost use Rattle.query_text.specs.declared.errors.QueryError.TheVariants.{Bad};
 ghost use Rattle.query_text.specs.Reading.{AreTexts};
 ghost use Rattle.query_text.specs.Forms.{query_in};
@@ -19,13 +19,25 @@ use text_pieces::next_field;
 
 /// The question that a text spells: `V west south east north zoom`, `C category west south east north`, `A prefix`, `H street` or
 /// `S west south east north`, parted by blanks, which may stand at either end too. `Bad` exactly where it spells none.
-#[tactic(auto, unfolding(live_model::specs::QueryTexts::query_of), using(crate::proofs::Texts::texts_after))]
+#[tactic(auto, unfolding(live_model::specs::QueryTexts::query_of), using(crate::proofs::Texts::all_texts))]
 pub fn read_query(alloc: Global, text: &str) -> Result<Query, QueryError>
     ensures query { IfOk result (λ query. query_of text.now ≡ Some query) }
     ensures good { IfOk result IsQuery }
     ensures bad { IfErr result (λ e. e ≡ Bad → query_of text.now ≡ None) }
 {
-    let Some(letter) = next_field(0, text.as_bytes()) else {
+    read_fields(alloc, 0, text.as_bytes())
+}
+
+/// The question that the fields of bytes spell, which begin at a place of a line and are UTF-8. `Bad` exactly where they spell none.
+#[tactic(auto, using(crate::proofs::Texts::texts_after))]
+pub fn read_fields(alloc: Global, at: usize, bytes: &[u8]) -> Result<Query, QueryError>
+    requires within { at + length bytes.now < 2 ^ 63 }
+    requires texts { AreTexts (fields_from at bytes.now) }
+    ensures query { IfOk result (λ query. query_from (fields_from at bytes.now) ≡ Some query) }
+    ensures good { IfOk result IsQuery }
+    ensures bad { IfErr result (λ e. e ≡ Bad → query_from (fields_from at bytes.now) ≡ None) }
+{
+    let Some(letter) = next_field(at, bytes) else {
         return Err(QueryError::Bad);
     };
     read_named(alloc, letter.bytes, letter.next, letter.rest)

@@ -1,0 +1,4 @@
+pub mod Names
+pub mod Readings
+pub mod Scripts
+pub mod StepLaw
