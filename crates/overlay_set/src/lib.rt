@@ -14,7 +14,7 @@
 //! anew of base and history, and a plan to fold fits every later set. This crate has definitions and laws alone so far.
 #![tactic(auto)]
 
-ghost use Rattle.overlay_set.specs.SetLaws.{AnswerLaw, FitsLaterLaw, FullLaw, JournalLaw, JournalStandsLaw, LaterChainLaw, LaterSelfLaw, NumberLaw, OpeningLaw, PlanLaw, SameAgeLaw, SettledLaw, ShownLaw, ShrinkLaw, SwapLaw};
+ghost use Rattle.overlay_set.specs.SetLaws.{AnswerLaw, FitsLaterLaw, FullLaw, JournalLaw, JournalStandsLaw, LaterChainLaw, LaterSelfLaw, NumberLaw, OpeningLaw, PlanLaw, SameAgeLaw, SettledLaw, ShapedLaw, ShownLaw, ShrinkLaw, SwapLaw};
 ghost use Rattle.overlay_set.specs.Loose.{HeadsLaw};
 ghost use Rattle.overlay_set.specs.MachineLaws.{EventsLaw, OpenedLaw, StepLaw};
 
@@ -49,9 +49,11 @@ pub fn plans_fit()
     ensures later { FitsLaterLaw }
 {}
 
-/// That where nothing is foldable the files have the settled shape, and where nothing can be shrunk there are as many.
+/// That nothing is foldable exactly where the files have the settled shape, and that where nothing can be shrunk there are as
+/// many.
 pub fn folded_sets_are_settled()
     ensures settled { SettledLaw }
+    ensures shaped { ShapedLaw }
     ensures full { FullLaw }
 {}
 
