@@ -16,14 +16,21 @@
 
 mod copies;
 mod entry;
+mod errors;
 mod image;
+mod ops;
 mod periods;
 mod plan;
+mod runs;
 mod set;
+mod site;
 mod threads;
 
 pub use entry::Published;
+pub use errors::{CommitError, Missing};
 pub use image::images_stand_for_their_files;
+pub use ops::SetOp;
 pub use plan::{FoldPlan, FoldWork};
 pub use set::OverlaySet;
+pub use site::FoldSite;
 pub use threads::threads_may_share;
