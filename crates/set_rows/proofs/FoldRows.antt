@@ -2,9 +2,16 @@
 use Rattle.std.proofs.Common.{◌≡◌, ℕ, List, [], ◌∷◌, ◌++◌, refl, Some, None, true, map, nat_lt, ◌+◌, ◌/◌, ◌%◌}
 use Rattle.live_model.specs.declared.levels.Level.TheVariants.{Day, Hour, Month}
 use Rattle.stamp_core.specs.Hours.{CivilHour, civil_hour}
-use Rattle.overlay_set.specs.Sets.{State, numbers_of}
+use Rattle.std.specs.List.{AllByRecursion}
+use Rattle.overlay_set.specs.Sets.{Entry, State, numbers_of, run_image}
 use Rattle.overlay_set.specs.Periods.{Period, foldable, shrinkable}
-use Rattle.overlay_set.specs.Swaps.{FoldPlan, Fits, missing, plan_of}
+use Rattle.overlay_set.specs.Swaps.{Add, FoldPlan, Fits, missing, plan_of}
+use Rattle.overlay_set.specs.MachineLaws.{IsGoodEvent, MachineStands}
+use Rattle.overlay_set.proofs.Fitting.{fits_later}
+use Rattle.overlay_set.proofs.Later.{later_step}
+use Rattle.overlay_set.proofs.Laws.{events}
+use Rattle.overlay_set.proofs.Planning.{plan_law}
+use Rattle.overlay_set.proofs.Stepping.{opened_law}
 use Rattle.overlay_set.specs.Machines.{Commit, Event, Machine, Plan, Publish, limits_of_a_board, machine_after, opened, with_fold}
 
 abbrev at : ℕ → ℕ → ℕ → CivilHour
@@ -62,3 +69,15 @@ first_is_there = refl
 
 comes_in : numbers_of (with_fold plan (after (two_days ++ (hour (at 1 2 1) ∷ [])))).files ≡ 0 ∷ 5 ∷ 3 ∷ 4 ∷ []
 comes_in = refl
+
+-- it fits still, as each plan does that fitted once
+stands : (list : List Event) → AllByRecursion IsGoodEvent list → MachineStands [] [] (machine_after limits_of_a_board [] [] (opened [] [] 1 1) list)
+stands list good = events limits_of_a_board [] [] (record { good = tt; rising = tt }) (opened [] [] 1 1) list good (opened_law [] [] 1 1)
+
+abbrev next : Entry
+next = record { stamp = at 1 2 1; tag = 0; lines = [] }
+
+still_fits : Fits plan (after (two_days ++ (hour (at 1 2 1) ∷ [])))
+still_fits =
+    fits_later plan (after two_days) (after (two_days ++ (hour (at 1 2 1) ∷ []))) (stands (two_days ++ (hour (at 1 2 1) ∷ [])) (tt, (tt, (tt, (tt, tt))))).stands.rising
+    (plan_law [] [] (after two_days) first_day (stands two_days (tt, (tt, (tt, tt)))).stands day_foldable) (later_step (after two_days) (Add next (run_image [] [] Hour (next ∷ []))))

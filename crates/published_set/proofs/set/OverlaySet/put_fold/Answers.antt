@@ -60,7 +60,7 @@ returns-then-from-len c =
     ≡ replaced c.args.names.now (record { number = c.args.number; image = image_of (arc_value c.args.image) }) (files_of c.self.inside.numbers.items (images_in (map arc_value c.self.inside.images.items))) =
     ap₂ (λ numbers images. files_of numbers (images_in (map arc_value images))) c.put_in_place.ensures.items c.put_in_place-then-from-len.ensures.items
     ∙ ap (λ (from : ℕ). files_of (take from c.self.inside.numbers.items ++ (c.args.number ∷ drop (from + length c.args.names.now) c.self.inside.numbers.items))
-        (images_in (map arc_value (take from c.self.inside.images.items ++ (c.args.image ∷ drop (from + length c.args.names.now) c.self.inside.images.items))))) at
+    (images_in (map arc_value (take from c.self.inside.images.items ++ (c.args.image ∷ drop (from + length c.args.names.now) c.self.inside.images.items))))) at
     ∙ sym (put_run arc_value c.args.names.now c.self.inside.numbers.items c.self.inside.images.items c.args.number c.args.image c.self.invariant.0 lt) in
     subst (λ (s : PublishedSet). record {
       base = arc_value c.self.inside.base_lines;
@@ -71,7 +71,7 @@ returns-then-from-len c =
     } ≡ record { base = s.base; state = with_file c.args.names.now (image_of (arc_value c.args.image)) s.state }) c.self.view_is
     (ap (λ (fs : List MapFile). record { base = arc_value c.self.inside.base_lines; state = record { history = map entry_of c.self.inside.history.items; files = fs } })
     (files ∙ ap (λ (n : ℕ). replaced c.args.names.now (record { number = n; image = image_of (arc_value c.args.image) }) (files_of c.self.inside.numbers.items (images_in (map arc_value c.self.inside.images.items))))
-        (subst (λ (s : PublishedSet). c.args.number ≡ age s.state + 1) (sym c.self.view_is) c.requires)))
+    (subst (λ (s : PublishedSet). c.args.number ≡ age s.state + 1) (sym c.self.view_is) c.requires)))
 
 pub returns-else-from-len : goal.returns-else-from-len
 returns-else-from-len c =
