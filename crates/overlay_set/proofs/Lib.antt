@@ -19,4 +19,5 @@ pub mod Filling
 pub mod Ageing
 pub mod Stretches
 pub mod Walking
+pub mod Shapes
 pub mod Laws

@@ -258,6 +258,32 @@ low_level history Month x xs a run among low =
     let high : 2 ≤ level_number (settled_level history a.stamp) = closed_high history a.stamp Month (omega arith) (closed_same Month history a.stamp run.hour within ∙ run.closed) in
     absurd (omega (arith, low, high))
 
+-- an entry of the period of a run is in the run
+in_run : (history : List Entry) (level : Level) (hour : CivilHour) (run : List Entry) (y : Entry) → run ≡ entries_in (record { level = level; hour = hour }) history → IsAmong y history → stretch level y.stamp ≡ stretch level hour → IsAmong y run
+in_run history level hour run y whole among e =
+    let yes : is_within level hour y.stamp ≡ true = grind (arith, nat_tests) in
+    subst (IsAmong y) (sym whole) (among_kept (λ z. is_within level hour z.stamp) history y yes among)
+
+-- what follows a run is not of its stretch
+pub stops_at : (history : List Entry) → AreRising history → (level : Level) (x : Entry) (xs : List Entry) (before : List Entry) (y : Entry) (ys : List Entry) → IsRunOf level history (x ∷ xs) → history ≡ before ++ ((x ∷ xs) ++ (y ∷ ys))
+    → stretch level x.stamp ≢ stretch level y.stamp
+stops_at history rising level x xs before y ys run here e =
+    let later : (z : Entry) → IsAmong z (x ∷ xs) → number_of z.stamp < number_of y.stamp = λ z h. before_all (x ∷ xs) y ys z (rising_right before ((x ∷ xs) ++ (y ∷ ys)) (subst AreRising here rising)) h in
+    go level run e later
+  where
+    among : IsAmong y history
+    among = subst (IsAmong y) (sym here) (among_right before ((x ∷ xs) ++ (y ∷ ys)) y (among_right (x ∷ xs) (y ∷ ys) y (inl refl)))
+
+    go : (level : Level) → IsRunOf level history (x ∷ xs) → stretch level x.stamp ≡ stretch level y.stamp → ((z : Entry) → IsAmong z (x ∷ xs) → number_of z.stamp < number_of y.stamp) → ⊥
+    go Base run e later = run
+    go Hour run e later = omega (arith, e, later x (inl refl))
+    go Day run e later =
+        let here : AreWithin (record { level = Day; hour = run.hour }) (x ∷ xs) = subst (AreWithin (record { level = Day; hour = run.hour })) (sym run.whole) (period_within (record { level = Day; hour = run.hour }) history) in
+        omega (arith, later y (in_run history Day run.hour (x ∷ xs) y run.whole among (sym e ∙ here.0)))
+    go Month run e later =
+        let here : AreWithin (record { level = Month; hour = run.hour }) (x ∷ xs) = subst (AreWithin (record { level = Month; hour = run.hour })) (sym run.whole) (period_within (record { level = Month; hour = run.hour }) history) in
+        omega (arith, later y (in_run history Month run.hour (x ∷ xs) y run.whole among (sym e ∙ here.0)))
+
 module _ (rules : List Rule) (history : List Entry) (files : List MapFile) (rising : AreRising history)
     (settled : AllByRecursion (λ p. is_one_of_level p.level (files_in p files) ≡ true) (periods history)) where
   -- the level of a file is that at which its entries are kept
@@ -299,32 +325,6 @@ module _ (rules : List Rule) (history : List Entry) (files : List MapFile) (risi
       let here : AreWithin (record { level = Month; hour = run.hour }) (x ∷ xs) = subst (AreWithin (record { level = Month; hour = run.hour })) (sym run.whole) (period_within (record { level = Month; hour = run.hour }) history) in
       all_stretch Month run.hour x (x ∷ xs) here.0 here
 
-  -- an entry of the period of a run is in the run
-  in_run : (level : Level) (hour : CivilHour) (run : List Entry) (y : Entry) → run ≡ entries_in (record { level = level; hour = hour }) history → IsAmong y history → stretch level y.stamp ≡ stretch level hour → IsAmong y run
-  in_run level hour run y whole among e =
-      let yes : is_within level hour y.stamp ≡ true = grind (arith, nat_tests) in
-      subst (IsAmong y) (sym whole) (among_kept (λ z. is_within level hour z.stamp) history y yes among)
-
-  -- what follows a run is not of its stretch
-  stops_at : (level : Level) (x : Entry) (xs : List Entry) (before : List Entry) (y : Entry) (ys : List Entry) → IsRunOf level history (x ∷ xs) → history ≡ before ++ ((x ∷ xs) ++ (y ∷ ys))
-      → stretch level x.stamp ≢ stretch level y.stamp
-  stops_at level x xs before y ys run here e =
-      let later : (z : Entry) → IsAmong z (x ∷ xs) → number_of z.stamp < number_of y.stamp = λ z h. before_all (x ∷ xs) y ys z (rising_right before ((x ∷ xs) ++ (y ∷ ys)) (subst AreRising here rising)) h in
-      go level run e later
-    where
-      among : IsAmong y history
-      among = subst (IsAmong y) (sym here) (among_right before ((x ∷ xs) ++ (y ∷ ys)) y (among_right (x ∷ xs) (y ∷ ys) y (inl refl)))
-
-      go : (level : Level) → IsRunOf level history (x ∷ xs) → stretch level x.stamp ≡ stretch level y.stamp → ((z : Entry) → IsAmong z (x ∷ xs) → number_of z.stamp < number_of y.stamp) → ⊥
-      go Base run e later = run
-      go Hour run e later = omega (arith, e, later x (inl refl))
-      go Day run e later =
-          let here : AreWithin (record { level = Day; hour = run.hour }) (x ∷ xs) = subst (AreWithin (record { level = Day; hour = run.hour })) (sym run.whole) (period_within (record { level = Day; hour = run.hour }) history) in
-          omega (arith, later y (in_run Day run.hour (x ∷ xs) y run.whole among (sym e ∙ here.0)))
-      go Month run e later =
-          let here : AreWithin (record { level = Month; hour = run.hour }) (x ∷ xs) = subst (AreWithin (record { level = Month; hour = run.hour })) (sym run.whole) (period_within (record { level = Month; hour = run.hour }) history) in
-          omega (arith, later y (in_run Month run.hour (x ∷ xs) y run.whole among (sym e ∙ here.0)))
-
   are_of : (level : Level) (k : ℕ) (es : List Entry) → ((a : Entry) → IsAmong a es → settled_level history a.stamp ≡ level) → AllByRecursion (λ e. stretch level e.stamp ≡ k) es → AreOf history level k es
   are_of level k [] f all = tt
   are_of level k (e ∷ es) f all = ((f e (inl refl), all.0), are_of level k es (λ a h. f a (inr h)) all.1)
@@ -350,7 +350,7 @@ module _ (rules : List Rule) (history : List Entry) (files : List MapFile) (risi
     where
       stop : (ys : List Entry) → history ≡ before ++ ((x ∷ xs) ++ ys) → IsRunOf b.image.head.level history (x ∷ xs) → Stops b.image.head.level (stretch b.image.head.level x.stamp) ys
       stop [] here run = tt
-      stop (y ∷ ys) here run = stops_at b.image.head.level x xs before y ys run here
+      stop (y ∷ ys) here run = stops_at history rising b.image.head.level x xs before y ys run here
 
 pub settled_law : SettledLaw
 settled_law rules base s st none =

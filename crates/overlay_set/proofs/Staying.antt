@@ -26,7 +26,7 @@ use Rattle.overlay_set.proofs.Folding.{PlanStands}
 pub head_inj : {A : Type 0} (x y : A) (xs ys : List A) → x ∷ xs ≡ y ∷ ys → x ≡ y
 head_inj x y xs ys e = cc
 
-tail_inj : {A : Type 0} (x y : A) (xs ys : List A) → x ∷ xs ≡ y ∷ ys → xs ≡ ys
+pub tail_inj : {A : Type 0} (x y : A) (xs ys : List A) → x ∷ xs ≡ y ∷ ys → xs ≡ ys
 tail_inj x y xs ys e = cc
 
 pub cancel : {A : Type 0} (xs a b : List A) → xs ++ a ≡ xs ++ b → a ≡ b

@@ -52,7 +52,7 @@ closed_by_last level hour (x ∷ y ∷ ys) last rising e = go (is_past level hou
         grind (arith, nat_tests, lt')
     go false past ih = ih
 
-settled_before : (history : List Entry) (last hour : CivilHour) → AreRising history → last_in (stamps_of history) ≡ Some last → settled_level history hour ≡ (period_before last hour).level
+pub settled_before : (history : List Entry) (last hour : CivilHour) → AreRising history → last_in (stamps_of history) ≡ Some last → settled_level history hour ≡ (period_before last hour).level
 settled_before history last hour rising e =
     ap₂ (λ (m d : Bool). cond m Month (cond d Day Hour)) (closed_by_last Month hour history last rising e) (closed_by_last Day hour history last rising e)
 

@@ -6,3 +6,4 @@ pub mod SetLaws
 pub mod Machines
 pub mod MachineLaws
 pub mod Loose
+pub mod Events

@@ -39,7 +39,7 @@ is_loose_at whole last None head after = false
 is_loose_at whole last (Some hour) head after =
     not (level_number (period_before last hour).level == 1) && (next_begins_in (period_before last hour) after || is_other_level whole (period_before last hour) head)
 
--- of a file with others behind it
+-- of a file with others after it
 abbrev pub is_loose : Bool → CivilHour → Head → List Head → Bool
 is_loose whole last head after = is_loose_at whole last head.first head after
 

@@ -59,6 +59,10 @@ PlanLaw = (rules : List Rule) (base : List Line) (s : State) (p : Period) → St
 abbrev pub SettledLaw : Type 0
 SettledLaw = (rules : List Rule) (base : List Line) (s : State) → Stands rules base s → foldable s ≡ None → images_of s.files ≡ shape rules base s.history
 
+-- and in one that has it nothing is foldable
+abbrev pub ShapedLaw : Type 0
+ShapedLaw = (rules : List Rule) (base : List Line) (s : State) → Stands rules base s → images_of s.files ≡ shape rules base s.history → foldable s ≡ None
+
 -- where nothing can be shrunk there are as many files as in the settled shape
 abbrev pub FullLaw : Type 0
 FullLaw = (rules : List Rule) (base : List Line) (s : State) → Stands rules base s → shrinkable s ≡ None → length s.files ≡ length (shape rules base s.history)

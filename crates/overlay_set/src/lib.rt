@@ -11,12 +11,17 @@
 //! The one idea: a file is seen as its head, rules, marks and records, and a set as its history and its numbered files; each
 //! change of the set is a swap, which adds an hour or puts a fold in the place of a run of files. The layer above may rely on
 //! this: a set that stands goes on to stand after each swap that may come, whatever it is asked has the answer of the map made
-//! anew of base and history, and a plan to fold fits every later set. This crate has definitions and laws alone so far.
+//! anew of base and history, and a plan to fold fits every later set. This crate has definitions, laws, and the types of events
+//! and replies.
 #![tactic(auto)]
 
-ghost use Rattle.overlay_set.specs.SetLaws.{AnswerLaw, FitsLaterLaw, FullLaw, JournalLaw, JournalStandsLaw, LaterChainLaw, LaterSelfLaw, NumberLaw, OpeningLaw, PlanLaw, SameAgeLaw, SettledLaw, ShownLaw, ShrinkLaw, SwapLaw};
+mod events;
+
+ghost use Rattle.overlay_set.specs.SetLaws.{AnswerLaw, FitsLaterLaw, FullLaw, JournalLaw, JournalStandsLaw, LaterChainLaw, LaterSelfLaw, NumberLaw, OpeningLaw, PlanLaw, SameAgeLaw, SettledLaw, ShapedLaw, ShownLaw, ShrinkLaw, SwapLaw};
 ghost use Rattle.overlay_set.specs.Loose.{HeadsLaw};
 ghost use Rattle.overlay_set.specs.MachineLaws.{EventsLaw, OpenedLaw, StepLaw};
+
+pub use events::{Event, Reply};
 
 /// That later is an order on sets: each is the later of itself, and what is later than a later one is later. The set after
 /// more of a journal is later, and of two sets of one age the later is the same.
@@ -49,9 +54,11 @@ pub fn plans_fit()
     ensures later { FitsLaterLaw }
 {}
 
-/// That where nothing is foldable the files have the settled shape, and where nothing can be shrunk there are as many.
+/// That nothing is foldable exactly where the files have the settled shape, and that where nothing can be shrunk there are as
+/// many.
 pub fn folded_sets_are_settled()
     ensures settled { SettledLaw }
+    ensures shaped { ShapedLaw }
     ensures full { FullLaw }
 {}
 

@@ -1,5 +1,5 @@
 -- What heads tell of a set that stands.
-use Rattle.std.proofs.Common.{◌≡◌, ℕ, suc, ◌+◌, ◌-◌, ◌≤◌, Bool, true, false, cond, List, [], ◌∷◌, length, drop, take, Option, Some, None, slice_get, refl, sym, inl, inr, ap, ap₂, subst, ◌∙◌, arith}
+use Rattle.std.proofs.Common.{◌≡◌, ℕ, suc, ◌+◌, ◌-◌, ◌≤◌, Bool, true, false, cond, IsTrue, is_some, not, List, [], ◌∷◌, length, drop, take, Option, Some, None, slice_get, refl, sym, inl, inr, ap, ap₂, subst, ◌∙◌, arith}
 use Rattle.std.specs.List.{last_or, prefix_len, slice_range}
 use Rattle.std.proofs.lemmas.List.{length-drop}
 use Rattle.std.proofs.lemmas.List.Sums.{prefix_len-le-length}
@@ -10,7 +10,7 @@ use Rattle.live_model.specs.declared.objects.Line.{Line}
 use Rattle.live_model.specs.declared.rules.Rule.{Rule}
 use Rattle.stamp_core.specs.Hours.{CivilHour}
 use Rattle.stamp_core.specs.declared.head.Head.{Head}
-use Rattle.overlay_set.specs.Sets.{Entry, MapFile, State, last_in, stamps_of}
+use Rattle.overlay_set.specs.Sets.{Entry, MapFile, State, images_of, last_in, stamps_of}
 use Rattle.overlay_set.specs.Standing.{Stands}
 use Rattle.overlay_set.specs.Loose.{before_loose, begins_in, heads_of, is_loose, is_loose_at, loose_period, period_before}
 use Rattle.std.specs.Prelude.{MatchOption}
@@ -19,7 +19,10 @@ use Rattle.published_set.proofs.Files.{files_length, heads_are}
 use Rattle.overlay_set.specs.Swaps.{FoldPlan, Fits}
 use Rattle.overlay_set.proofs.Planning.{plan_law, shrink_law}
 use Rattle.overlay_set.proofs.Walking.{heads_law}
-use Rattle.published_set.specs.Sets.{IsFoundAt, IsLooseAt, IsLoosePeriod, IsStanding, files_of, heads_in, hour_at, images_in}
+use Rattle.overlay_set.proofs.Settling.{settled_law}
+use Rattle.overlay_set.proofs.Shapes.{shaped_law}
+use Rattle.overlay_set.specs.Periods.{Period, foldable, shape}
+use Rattle.published_set.specs.Sets.{IsFoundAt, IsLooseAt, IsLoosePeriod, IsStanding, PublishedSet, files_of, heads_in, hour_at, images_in, rules_of}
 
 -- the plan of a loose period fits
 pub loose_fits : (rules : List Rule) (base : List Line) (s : State) (from to : ℕ) (level : Level) → Stands rules base s → IsLoosePeriod s from to level → Fits (record { files = slice_range s.files from to; level = level }) s
@@ -118,3 +121,21 @@ set_told whole base s last ns images o n files even many ends told st = go o tol
         → MatchOption o (loose_period whole s ≡ None) (λ r. IsFoundAt (loose_period whole s) s.files r.0 r.1 r.2)
     go None none = found_none whole _ base s last st ends (ap (before_loose whole last) heads ∙ none ∙ sym count)
     go (Some r) at = found_at whole _ base s last r.0 r.1 r.2 st ends (subst (λ (hs : List Head). IsLooseAt whole last hs r.0 r.1 r.2) (sym heads) at)
+
+-- nothing is foldable exactly where the files have the settled shape
+pub settled_told : (set : PublishedSet) (o : Option (ℕ × ℕ × Level)) (b : Bool) → is_some o ≡ not b → IsStanding set
+    → MatchOption o (foldable set.state ≡ None) (λ r. IsFoundAt (foldable set.state) set.state.files r.0 r.1 r.2)
+    → (IsTrue b → images_of set.state.files ≡ shape (rules_of set) set.base set.state.history) × (images_of set.state.files ≡ shape (rules_of set) set.base set.state.history → IsTrue b)
+settled_told set None true is st none = (λ _. settled_law (rules_of set) set.base set.state st none, λ _. refl)
+settled_told set None false is st none = absurd cc
+settled_told set (Some r) true is st found = absurd cc
+settled_told set (Some r) false is st found = (
+  λ t. absurd (true_false (sym t)),
+  λ shaped. absurd (some_none found.period (sym found.is ∙ shaped_law (rules_of set) set.base set.state st shaped)),
+)
+  where
+    true_false : true ≡ false → ⊥
+    true_false e = absurd cc
+
+    some_none : (p : Period) → Some p ≡ None → ⊥
+    some_none p e = absurd cc

@@ -1,13 +1,12 @@
 -- What an image stands for is what its file holds.
-use Rattle.std.proofs.Common.{◌≡◌, ◌<◌, ◌≤◌, ◌/◌, ◌%◌, ◌^◌, ◌*◌, ◌+◌, ◌-◌, ℕ, Bool, true, false, cond, ◌==◌, nat_le, List, [], ◌∷◌, map, None, Ok, refl, sym, ap, ap₂, subst, ◌∙◌, arith}
-use Rattle.std.specs.Prelude.{pos, negsuc}
+use Rattle.std.proofs.Common.{◌≡◌, ℕ, true, List, [], ◌∷◌, map, None, Ok, refl, sym, ap, ap₂, subst, ◌∙◌}
 use Rattle.std.specs.List.{list_all}
 use Rattle.std.proofs.lemmas.Bool.{and_parts}
-use Rattle.std.proofs.lemmas.Bool.Decides.{nat_tests}
 use Rattle.live_model.specs.declared.records.Rec.{Rec}
 use Rattle.live_model.specs.declared.rules.Rule.{Rule}
-use Rattle.live_model.specs.Ids.{ordinal, rank, lifted_by}
+use Rattle.live_model.specs.Ids.{ordinal}
 use Rattle.file_grammar.specs.BoxRules.{is_ordinal}
+use Rattle.file_grammar.specs.Sections.{object_of}
 use Rattle.file_grammar.specs.Files.{HeadNumbers, IsFile, head_numbers, version_of, whole}
 use Rattle.file_grammar.specs.declared.parts.Version.{Version}
 use Rattle.file_grammar.specs.declared.parts.Part.TheVariants.{File}
@@ -16,34 +15,14 @@ use Rattle.file_grammar.specs.Readings.{IsInMemory, message_at}
 use Rattle.obf_reader.specs.Images.{IsImage, Seen}
 use Rattle.obf_reader.specs.Spread.{read_file}
 use Rattle.obf_reader.proofs.Images.{file_of}
-use Rattle.published_set.specs.Images.{IsItsFile, id_at, image_of, kind_at, lowered_by, records_in, records_of, records_read}
+use Rattle.boxed_laws.proofs.ObjectNumbers.{ordinal_again}
+use Rattle.published_set.specs.Images.{IsItsFile, image_of, records_in, records_of, records_read}
 
-rank_kind : (n : ℕ) → n ≤ 2 → rank (kind_at n) ≡ n
-rank_kind n le = go (n == 0) refl (n == 1) refl
-  where
-    go : (a : Bool) → (n == 0) ≡ a → (b : Bool) → (n == 1) ≡ b → rank (kind_at n) ≡ n
-    go true e b f = let none : n ≡ 0 = grind (arith, nat_tests) in rw none refl
-    go false e true f = let one : n ≡ 1 = grind (arith, nat_tests) in rw one refl
-    go false e false f = let two : n ≡ 2 = grind (arith, nat_tests, le) in rw two refl
-
-lifted_lowered : (by n : ℕ) → lifted_by by (lowered_by by n) ≡ n
-lifted_lowered by n = go (nat_le by n) refl
-  where
-    go : (b : Bool) → nat_le by n ≡ b → lifted_by by (cond b (pos (n - by)) (negsuc (by - (n + 1)))) ≡ n
-    go true e = let le : by ≤ n = grind (arith, nat_tests) in omega (arith, le)
-    go false e = let lt : n < by = grind (arith, nat_tests) in omega (arith, lt)
-
--- the id at an ordinal has it
-ordinal_at : (n : ℕ) → is_ordinal n ≡ true → ordinal (id_at n) ≡ n
-ordinal_at n is =
-    let few : n / 2 ^ 50 ≤ 2 = grind (arith, nat_tests, is) in
-    ap₂ (λ (r l : ℕ). r * 2 ^ 50 + l) (rank_kind (n / 2 ^ 50) few) (lifted_lowered (2 ^ 48) (n % 2 ^ 50)) ∙ omega arith
-
-ordinals_at : (marks : List ℕ) → list_all is_ordinal marks ≡ true → map ordinal (map id_at marks) ≡ marks
+ordinals_at : (marks : List ℕ) → list_all is_ordinal marks ≡ true → map ordinal (map object_of marks) ≡ marks
 ordinals_at [] all = refl
 ordinals_at (n ∷ ns) all =
     let both = and_parts (is_ordinal n) (list_all is_ordinal ns) all in
-    ap₂ (λ (m : ℕ) (ms : List ℕ). m ∷ ms) (ordinal_at n both.0) (ordinals_at ns both.1)
+    ap₂ (λ (m : ℕ) (ms : List ℕ). m ∷ ms) (ordinal_again n both.0) (ordinals_at ns both.1)
 
 -- the records are those that are found by reading the bytes
 records_are : (bytes : List ℕ) (version : Version) (head : HeadNumbers) (rules : List Rule) (marks : List ℕ) (records : List Rec) → IsInMemory (whole bytes) → version ≡ version_of bytes

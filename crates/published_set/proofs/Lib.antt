@@ -2,3 +2,4 @@ pub mod Images
 pub mod Files
 pub mod Heads
 pub mod Adding
+pub mod Replacing

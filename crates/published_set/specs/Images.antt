@@ -1,29 +1,14 @@
 -- What a map file that was read stands for in a set.
-use Rattle.std.specs.Prelude.{ℕ, ◌+◌, ◌-◌, ◌/◌, ◌%◌, ◌^◌, ◌==◌, nat_le, ℤ, pos, negsuc, List, [], map, Option, Some, None, if◌then◌else◌, Result, Ok, Err}
-use Rattle.live_model.specs.declared.ids.Kind.{Kind}
-use Rattle.live_model.specs.declared.ids.Kind.TheVariants.{Node, Way, Relation}
+use Rattle.std.specs.Prelude.{ℕ, List, [], map, Option, Some, None, Result, Ok, Err}
 use Rattle.live_model.specs.declared.records.Rec.{Rec}
-use Rattle.live_model.specs.Ids.{Id, ordinal}
+use Rattle.live_model.specs.Ids.{ordinal}
 use Rattle.obf_wire.specs.declared.file.FileBreak.{FileBreak}
 use Rattle.file_grammar.specs.Files.{FileParts, IsFile, file_in, file_records, head_numbers}
 use Rattle.file_grammar.specs.Messages.{Fields}
+use Rattle.file_grammar.specs.Sections.{object_of}
 use Rattle.obf_reader.specs.Images.{Seen}
 use Rattle.obf_reader.specs.Spread.{read_file}
 use Rattle.overlay_set.specs.Sets.{Image}
-
--- The ids of ordinals.
-
--- the kind whose rank this is
-abbrev pub kind_at : ℕ → Kind
-kind_at n = if n == 0 then Node else if n == 1 then Way else Relation
-
--- the number that is this one when it is moved up by so much
-abbrev pub lowered_by : ℕ → ℕ → ℤ
-lowered_by by n = if nat_le by n then pos (n - by) else negsuc (by - (n + 1))
-
--- the id at a place in the order of ids
-abbrev pub id_at : ℕ → Id
-id_at n = record { kind = kind_at (n / 2 ^ 50); number = lowered_by (2 ^ 48) (n % 2 ^ 50) }
 
 -- Records.
 
@@ -48,7 +33,7 @@ abbrev pub image_of : Seen → Image
 image_of seen = record {
   head = seen.head;
   rules = seen.rules;
-  overlay = record { marks = map id_at seen.marks; records = records_of seen.bytes };
+  overlay = record { marks = map object_of seen.marks; records = records_of seen.bytes };
 }
 
 -- the bytes are a file of just what this stands for

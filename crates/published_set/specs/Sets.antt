@@ -9,7 +9,7 @@ use Rattle.live_model.specs.declared.rules.Rule.{Rule}
 use Rattle.overlay_set.specs.Sets.{Entry, Image, MapFile, State, images_of}
 use Rattle.overlay_set.specs.Periods.{Period, files_in, foldable, places_of, shrinkable}
 use Rattle.overlay_set.specs.Standing.{Stands}
-use Rattle.overlay_set.specs.Swaps.{FoldPlan, common_rules}
+use Rattle.overlay_set.specs.Swaps.{common_rules}
 use Rattle.overlay_set.specs.Loose.{before_loose, begins_in, period_before}
 use Rattle.stamp_core.specs.Hours.{CivilHour}
 use Rattle.stamp_core.specs.declared.head.Head.{Head}
@@ -47,7 +47,7 @@ rules_of s = common_rules (images_of s.state.files)
 abbrev pub IsStanding : PublishedSet → Type 0
 IsStanding s = Stands (rules_of s) s.base s.state
 
--- the period was found, and its files are just those from one place up to another, which is no more among them
+-- the period was found, and its files are just those from one index up to another, that one not among them
 pub record IsFoundAt (found : Option Period) (files : List MapFile) (from to : ℕ) (level : Level) : Type 0 where
   pub period : Period
   pub is : found ≡ Some period
@@ -57,20 +57,15 @@ pub record IsFoundAt (found : Option Period) (files : List MapFile) (from to : �
   pub inside : to ≤ length files
   pub whole : files_in period files ≡ slice_range files from to
 
--- so stands a period that is to be folded, or that can be shrunk
+-- so stand the files of the period that is first to be folded, or of the first that can be shrunk
 abbrev pub IsLoosePeriod : State → ℕ → ℕ → Level → Type 0
 IsLoosePeriod s from to level = IsFoundAt (foldable s) s.files from to level ⊎ IsFoundAt (shrinkable s) s.files from to level
 
--- a plan, and the image of the fold
-pub record Work : Type 0 where
-  pub plan : FoldPlan
-  pub image : Image
-
--- the first hour of the head at a place, if there is one
+-- the first hour of the head at an index, if there is one
 abbrev pub hour_at : List Head → ℕ → Option CivilHour
 hour_at heads n = option_and_then (λ head. head.first) (slice_get heads n)
 
--- from one place up to another stand the files of the first period that is loose, which begins with a file of this hour
+-- from one index up to another stand the files of the first period that is loose, which begins with a file of this hour
 pub record IsLooseAt (whole : Bool) (last : CivilHour) (heads : List Head) (from to : ℕ) (level : Level) : Type 0 where
   pub hour : CivilHour
   pub begins : hour_at heads from ≡ Some hour

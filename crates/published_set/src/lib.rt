@@ -10,20 +10,28 @@
 //! ```
 //!
 //! The layer above may rely on this: an image stands for what its file holds; a set that stands and gets a publication with the
-//! file of its overlay is just that set after the swap, and takes no memory for it; what is to be folded or shrunk is told
+//! file of its overlay, or a fold in the place of the files of its plan, is just that set after the swap, and takes no memory for
+//! it; an operation is taken in at any time, and changes nothing where it may not come; what is to be folded or shrunk is told
 //! exactly, by heads alone; and a plan of it fits.
 #![tactic(auto)]
 
 mod copies;
 mod entry;
+mod errors;
 mod image;
+mod ops;
 mod periods;
 mod plan;
+mod runs;
 mod set;
+mod site;
 mod threads;
 
 pub use entry::Published;
+pub use errors::{CommitError, Missing};
 pub use image::images_stand_for_their_files;
+pub use ops::SetOp;
 pub use plan::{FoldPlan, FoldWork};
 pub use set::OverlaySet;
+pub use site::FoldSite;
 pub use threads::threads_may_share;

@@ -12,7 +12,7 @@ use obf_reader::Image;
 use stamp_core::{Head, Stamp};
 use std::sync::Arc;
 
-/// Where the files of the first day or month stand that is loose, the place behind the last one, and its level: one that has two
+/// Where the files of the first day or month begin that is loose, the index after the last one, and its level: one that has two
 /// files or more, or, where whole folds are wanted, that is not one file of its level. `None` exactly where there is none.
 pub fn first_loose(
     whole: bool,
@@ -32,7 +32,7 @@ pub fn first_loose(
     }
 }
 
-/// The first hour of the file at a place.
+/// The first hour of the file at an index.
 fn hour_at(images: &[Arc<Image>], index: usize) -> Option<Stamp>
     ensures { result ≡ hour_at (heads_in (map arc_value images.now)) index }
 {

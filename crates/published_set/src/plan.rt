@@ -1,13 +1,13 @@
 //! Plans to fold files into one, and folds that were made.
 
-ghost use Rattle.std.specs.Prelude.{◌≡◌, length, map};
+ghost use Rattle.std.specs.Prelude.{◌≡◌, IfOk, length, map};
 ghost use Rattle.std.specs.Arc.{arc_value};
-ghost use Rattle.overlay_set.specs.Sets.{images_of};
+ghost use Rattle.overlay_set.specs.Sets.{images_of, numbers_of};
 ghost use Rattle.overlay_set.specs.Swaps.{fold_image};
 ghost use Rattle.published_set.specs.Images.{image_of};
 ghost use Rattle.published_set.specs.Sets.{files_of, images_in};
 
-use live_model::Level;
+use live_model::{Level, Mem, NoMemory};
 use obf_reader::Image;
 use std::marker::Model;
 use std::sync::Arc;
@@ -21,7 +21,7 @@ pub struct FoldPlan {
 }
 
 impl Model for FoldPlan {
-    ghost use Rattle.std.specs.Prelude.{◌≡◌, length, map};
+    ghost use Rattle.std.specs.Prelude.{◌≡◌, IfOk, length, map};
     ghost use Rattle.std.specs.Arc.{arc_value};
     ghost use Rattle.overlay_set.specs.Swaps.{FoldPlan as Plan};
     ghost use Rattle.published_set.specs.Sets.{files_of, images_in};
@@ -60,16 +60,23 @@ impl FoldPlan {
         self.level
     }
 
-    /// The plan with the fold of its images. It takes no memory.
+    /// The plan with the fold of its images at its level. It takes no memory.
     pub fn finish(self, image: Arc<Image>) -> FoldWork
         requires { image_of (arc_value image) ≡ fold_image self.level (images_of self.files) }
-        ensures { result ≡ record { plan = self; image = fold_image self.level (images_of self.files) } }
+        ensures { result ≡ self }
     {
         FoldWork { plan: self, image }
     }
+
+    /// The numbers of the files, in their order.
+    pub(crate) fn numbers(&self) -> &[u64]
+        ensures { result.now ≡ numbers_of self.now.files }
+    {
+        self.numbers.as_slice()
+    }
 }
 
-/// A plan with the fold of its images, ready to be put in the place of its files. It is seen as the two.
+/// A plan with the fold of its images, ready to be put in the place of its files. It is seen as the plan, which tells the fold.
 #[derive(Drop)]
 pub struct FoldWork {
     plan: FoldPlan,
@@ -77,11 +84,43 @@ pub struct FoldWork {
 }
 
 impl Model for FoldWork {
+    ghost use Rattle.std.specs.Prelude.{◌≡◌};
     ghost use Rattle.std.specs.Arc.{arc_value};
+    ghost use Rattle.overlay_set.specs.Sets.{images_of};
+    ghost use Rattle.overlay_set.specs.Swaps.{FoldPlan as Plan, fold_image};
     ghost use Rattle.published_set.specs.Images.{image_of};
-    ghost use Rattle.published_set.specs.Sets.{Work};
 
-    ghost Value = { Work };
+    ghost Value = { Plan };
 
-    ghost view = { λ work. record { plan = work.plan; image = image_of (arc_value work.image) } };
+    ghost view = { λ work. work.plan };
+
+    ghost invariant = { λ work. image_of (arc_value work.image) ≡ fold_image work.plan.level (images_of work.plan.files) };
+}
+
+impl FoldWork {
+    /// The numbers of the files of the plan, in their order.
+    pub(crate) fn numbers(&self) -> &[u64]
+        ensures { result.now ≡ numbers_of self.now.files }
+    {
+        self.plan.numbers()
+    }
+
+    /// The plan, and the fold.
+    pub(crate) fn into_parts(self) -> (FoldPlan, Arc<Image>)
+        ensures plan { result.0 ≡ self }
+        ensures image { image_of (arc_value result.1) ≡ fold_image self.level (images_of self.files) }
+    {
+        let FoldWork { plan, image } = self;
+        (plan, image)
+    }
+
+    /// The fold, with a further owner.
+    pub(crate) fn shared_image(&self) -> Mem<Arc<Image>>
+        ensures { IfOk result (λ image. image_of (arc_value image) ≡ fold_image self.now.level (images_of self.now.files)) }
+    {
+        match Arc::try_clone(&self.image) {
+            Ok(image) => Ok(image),
+            Err(_) => Err(NoMemory),
+        }
+    }
 }

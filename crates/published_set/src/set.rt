@@ -1,20 +1,25 @@
 //! The set.
 
-ghost use Rattle.std.specs.Prelude.{◌≡◌, ◌↔◌, ◌+◌, ◌<◌, ◌≤◌, [], IfOk, IsTrue, MatchOption, None, length, map, slice_range};
+ghost use Rattle.std.specs.Prelude.{◌≡◌, ◌↔◌, ◌+◌, ◌≤◌, [], false, true, IfOk, IsTrue, MatchOption, MatchResult, None, OnErr, Some, length, map, slice_range};
 ghost use Rattle.std.specs.Arc.{arc_value};
 ghost use Rattle.live_model.specs.Stores.{IsStore, apply};
 ghost use Rattle.overlay_set.specs.Sets.{age, base_image, greatest, images_of, last_in, numbers_of, opening, stamps_of};
-ghost use Rattle.overlay_set.specs.Swaps.{Add, Fits, Takes, applied};
+ghost use Rattle.overlay_set.specs.Swaps.{Add, Fits, Replace, Takes, applied, fold_image, missing};
+ghost use Rattle.overlay_set.specs.Machines.{with_fold};
 ghost use Rattle.overlay_set.specs.SetLaws.{AreGood};
-ghost use Rattle.overlay_set.specs.Periods.{foldable, shrinkable};
+ghost use Rattle.overlay_set.specs.Periods.{foldable, shape, shrinkable};
 ghost use Rattle.overlay_set.specs.Loose.{loose_period};
 ghost use Rattle.published_set.specs.Images.{image_of};
+ghost use Rattle.published_set.specs.Ops.{absorbed, has_number_left, has_room, swap_of, with_file};
 ghost use Rattle.published_set.specs.Sets.{IsFoundAt, IsLoosePeriod, IsStanding, entry_of, images_in, rules_of};
 
 use crate::copies::{copy_history, copy_images, copy_numbers, images_between, numbers_between};
 use crate::entry::Published;
+use crate::errors::Missing;
+use crate::ops::SetOp;
 use crate::periods::first_loose;
-use crate::plan::FoldPlan;
+use crate::plan::{FoldPlan, FoldWork};
+use crate::runs::{before_run, first_missing, put_in_place};
 use live_model::{Level, Lines, Mem};
 use obf_reader::Image;
 use stamp_core::Stamp;
@@ -48,11 +53,12 @@ impl Model for OverlaySet {
 
     ghost view = { λ s. record { base = arc_value s.base_lines; state = record { history = map entry_of s.history.items; files = files_of s.numbers.items (images_in (map arc_value s.images.items)) } } };
 
-    ghost invariant = { λ s. (length s.numbers.items ≡ length s.images.items) × (65536 ≤ vec_capacity s.history) × (1024 ≤ vec_capacity s.numbers) × (1024 ≤ vec_capacity s.images) };
+    ghost invariant = { λ s. (length s.numbers.items ≡ length s.images.items) × (65536 ≤ vec_capacity s.history) × (1024 ≤ vec_capacity s.numbers) × (1024 ≤ vec_capacity s.images) × (length s.history.items ≤ 65536) × (length s.numbers.items ≤ 1024) };
 }
 
 impl OverlaySet {
-    /// The set of a base alone, under the number 0, with the lines that the base was made of.
+    /// The set of a base alone, under the number 0, with the lines that the base was made of. It takes room for 65,536 publications
+    /// and 1,024 files; `NoMemory` where that was refused.
     pub fn new(alloc: Global, base_lines: Arc<Lines>, base: Arc<Image>) -> Mem<OverlaySet>
         requires { image_of (arc_value base) ≡ base_image (arc_value base).rules (arc_value base_lines) }
         ensures set { IfOk result (λ set. set ≡ record { base = arc_value base_lines; state = opening (arc_value base).rules (arc_value base_lines) }) }
@@ -71,32 +77,82 @@ impl OverlaySet {
         })
     }
 
-    /// Adds a publication and the hour file of its overlay, which gets the number above the greatest of the set. It takes no memory.
+    /// Adds a publication and the hour file of its overlay, which gets the number above the greatest of the set. There has to be
+    /// room for both, the hour has to be later than the last one, and the image has to be that of the overlay of the lines after
+    /// the history, with the rules of the set. It takes no memory.
     pub fn add(&mut self, published: Published, image: Arc<Image>)
         requires standing { IsStanding self.old }
-        requires entries { length self.old.state.history < 65536 }
-        requires files { length self.old.state.files < 1024 }
+        requires room { IsTrue (has_room self.old.state) }
         requires takes { Takes (rules_of self.old) self.old.base self.old.state (Add (entry_of published) (image_of (arc_value image))) }
         ensures set { self.new ≡ record { base = self.old.base; state = applied self.old.state (Add (entry_of published) (image_of (arc_value image))) } }
-        ensures standing { IsStore (apply [] self.old.base) → AreGood self.old.state.history → IsStanding self.new }
+        ensures standing { IsStanding self.new }
     {
         let number = self.next_number();
-        self.history.push_reserved(published);
-        self.numbers.push_reserved(number);
-        self.images.push_reserved(image);
+        self.append(number, published, image);
     }
 
-    /// The publications, in the order of their hours.
+    /// Puts a fold in the place of the files of its plan, under the number above the greatest of the set. The plan has to fit: it was
+    /// made from this set as it is or as it was before. It takes no memory.
+    ///
+    /// `Missing` exactly where a file of the plan is not in the set any more, with the first such number; the set stays as it was,
+    /// and the fold is dropped.
+    ///
+    /// A set over a base that makes a store, with good lines alone, goes on to stand.
+    pub fn replace(&mut self, work: FoldWork) -> Result<(), Missing>
+        requires standing { IsStanding self.old }
+        requires fits { Fits work self.old.state }
+        ensures cause { MatchResult result (λ _. missing work self.old.state ≡ None) (λ e. missing work self.old.state ≡ Some e.file) }
+        ensures set { IfOk result (λ _. self.new ≡ record { base = self.old.base; state = with_fold work self.old.state }) }
+        ensures stays { OnErr result (self.new ≡ self.old) }
+        ensures standing { IfOk result (λ _. IsStore (apply [] self.old.base) → AreGood self.old.state.history → IsStanding self.new) }
+    {
+        match first_missing(work.numbers(), self.numbers.as_slice()) {
+            Some(file) => Err(Missing { file }),
+            None => {
+                let number = self.next_number();
+                let (plan, image) = work.into_parts();
+                self.put_fold(number, plan.numbers(), image);
+                Ok(())
+            }
+        }
+    }
+
+    /// Takes in an operation, whatever it is, with further owners of what it holds: does what `add` and `replace` do, and
+    /// changes nothing where there is no room for a publication, where the files of a plan do not stand one after another, where
+    /// the set has no files, or where its greatest number is the last of its type.
+    ///
+    /// `NoMemory` where a further owner was refused; the set stays as it was.
+    pub fn apply(&mut self, op: &SetOp) -> Mem<()>
+        ensures set { IfOk result (λ _. self.new ≡ record { base = self.old.base; state = absorbed self.old.state (swap_of op.now) }) }
+        ensures stays { OnErr result (self.new ≡ self.old) }
+    {
+        match op {
+            SetOp::Add { published, image } => self.absorb_publication(published, image),
+            SetOp::Replace { work } => self.absorb_fold(work),
+        }
+    }
+
+    /// Whether there is room for one more publication and its file.
+    pub fn has_room(&self) -> bool
+        ensures { result ≡ has_room self.now.state }
+    {
+        self.history.len() < MOST_ENTRIES && self.numbers.len() < MOST_FILES
+    }
+
+    /// The publications, in the order of their hours, 65,536 at most.
     pub fn history(&self) -> &[Published]
-        ensures { map entry_of result.now ≡ self.now.state.history }
+        ensures entries { map entry_of result.now ≡ self.now.state.history }
+        ensures most { length result.now ≤ 65536 }
     {
         self.history.as_slice()
     }
 
-    /// The numbers of the files, in their order.
+    /// The numbers of the files, in their order, 1,024 at most. In a set that stands none is above 262,144.
     #[tactic(auto, using(crate::proofs::Files::numbers_are))]
     pub fn numbers(&self) -> &[u64]
-        ensures { result.now ≡ numbers_of self.now.state.files }
+        ensures numbers { result.now ≡ numbers_of self.now.state.files }
+        ensures most { length result.now ≤ 1024 }
+        ensures small { IsStanding self.now → age self.now.state ≤ 262144 }
     {
         self.numbers.as_slice()
     }
@@ -110,8 +166,8 @@ impl OverlaySet {
     }
 
     /// The first day or month that is to be folded: a closed month that is not exactly one month file, or a closed day of the last
-    /// month that is not exactly one day file. The place of the first of its files, the place behind the last one, and the level.
-    /// `None` exactly where there is none.
+    /// month that is not exactly one day file. The index of the first of its files, the index after the last one, and the level.
+    /// `None` exactly where there is none. It takes no memory.
     pub fn foldable(&self) -> Option<(usize, usize, Level)>
         requires { IsStanding self.now }
         ensures { MatchOption result (foldable self.now.state ≡ None) (λ r. IsFoundAt (foldable self.now.state) self.now.state.files r.0 r.1 r.2) }
@@ -119,7 +175,7 @@ impl OverlaySet {
         self.first_loose(true)
     }
 
-    /// The first such day or month with two or more files. `None` exactly where there is none.
+    /// The first such day or month with two or more files. `None` exactly where there is none. It takes no memory.
     pub fn shrinkable(&self) -> Option<(usize, usize, Level)>
         requires { IsStanding self.now }
         ensures { MatchOption result (shrinkable self.now.state ≡ None) (λ r. IsFoundAt (shrinkable self.now.state) self.now.state.files r.0 r.1 r.2) }
@@ -127,16 +183,19 @@ impl OverlaySet {
         self.first_loose(false)
     }
 
-    /// Whether nothing is to be folded, so that the files are those that the history has in the end.
+    /// Whether nothing is to be folded: exactly where the files have the shape that the history has in the end, which is the base, a
+    /// file for each closed month and for each closed day of the last month, and an hour file for each publication of the last day.
+    /// It takes no memory.
     pub fn shape_is_settled(&self) -> bool
         requires { IsStanding self.now }
-        ensures { IsTrue result ↔ (foldable self.now.state ≡ None) }
+        ensures foldable { IsTrue result ↔ (foldable self.now.state ≡ None) }
+        ensures shape { IsTrue result ↔ (images_of self.now.state.files ≡ shape (rules_of self.now) self.now.base self.now.state.history) }
     {
         self.foldable().is_none()
     }
 
-    /// The plan to fold the files from a place up to another into one of this level: those of a day or month that is to be folded or
-    /// can be shrunk.
+    /// The plan to fold the files from an index up to another into one of this level: those of the day or month that is first to be
+    /// folded, or of the first that can be shrunk. `NoMemory` where memory was refused.
     pub fn plan(&self, alloc: Global, from: usize, to: usize, level: Level) -> Mem<FoldPlan>
         requires standing { IsStanding self.now }
         requires found { IsLoosePeriod self.now.state from to level }
@@ -148,7 +207,7 @@ impl OverlaySet {
         Ok(FoldPlan::of(numbers, images, level))
     }
 
-    /// The same set, with further owners of its lines and images, and with the same room.
+    /// The same set, with further owners of its lines and images, and with the same room. `NoMemory` where memory was refused.
     pub fn copy(&self, alloc: Global) -> Mem<OverlaySet>
         ensures { IfOk result (λ copied. copied ≡ self.now) }
     {
@@ -164,12 +223,73 @@ impl OverlaySet {
         })
     }
 
+    fn absorb_publication(&mut self, published: &Published, image: &Arc<Image>) -> Mem<()>
+        ensures set { IfOk result (λ _. self.new ≡ record { base = self.old.base; state = absorbed self.old.state (Add (entry_of published.now) (image_of (arc_value image.now))) }) }
+        ensures stays { OnErr result (self.new ≡ self.old) }
+    {
+        let Some(number) = self.number_left() else {
+            return Ok(());
+        };
+        if !self.has_room() {
+            return Ok(());
+        }
+        let further = published.copy()?;
+        let image = Arc::try_clone(image)?;
+        self.append(number, further, image);
+        Ok(())
+    }
+
+    fn absorb_fold(&mut self, work: &FoldWork) -> Mem<()>
+        ensures set { IfOk result (λ _. self.new ≡ record { base = self.old.base; state = absorbed self.old.state (Replace work.now (fold_image work.now.level (images_of work.now.files))) }) }
+        ensures stays { OnErr result (self.new ≡ self.old) }
+    {
+        let Some(number) = self.number_left() else {
+            return Ok(());
+        };
+        let image = work.shared_image()?;
+        self.put_fold(number, work.numbers(), image);
+        Ok(())
+    }
+
+    /// Appends a publication and its file under the number above the greatest.
+    fn append(&mut self, number: u64, published: Published, image: Arc<Image>)
+        requires number { number ≡ age self.old.state + 1 }
+        requires room { IsTrue (has_room self.old.state) }
+        ensures { self.new ≡ record { base = self.old.base; state = applied self.old.state (Add (entry_of published) (image_of (arc_value image))) } }
+    {
+        self.history.push_reserved(published);
+        self.numbers.push_reserved(number);
+        self.images.push_reserved(image);
+    }
+
+    /// Puts a file under the number above the greatest in the place of those with these names, where they stand one after another.
+    fn put_fold(&mut self, number: u64, names: &[u64], image: Arc<Image>)
+        requires { number ≡ age self.old.state + 1 }
+        ensures { self.new ≡ record { base = self.old.base; state = with_file names.now (image_of (arc_value image)) self.old.state } }
+    {
+        let from = before_run(names, self.numbers.as_slice());
+        if from < self.numbers.len() {
+            put_in_place(&mut self.numbers, from, names.len(), number);
+            put_in_place(&mut self.images, from, names.len(), image);
+        }
+    }
+
     /// The number above the greatest.
     fn next_number(&self) -> u64
-        requires { IsStanding self.now × (length self.now.state.history ≤ 65536) }
+        requires { IsStanding self.now }
         ensures { result ≡ age self.now.state + 1 }
     {
         greatest(self.numbers.as_slice()) + 1
+    }
+
+    /// The number above the greatest, where there are files and it is not above the last number of the type.
+    fn number_left(&self) -> Option<u64>
+        ensures { MatchOption result (has_number_left self.now.state ≡ false) (λ n. (has_number_left self.now.state ≡ true) × (n ≡ age self.now.state + 1)) }
+    {
+        if self.numbers.is_empty() {
+            return None;
+        }
+        greatest(self.numbers.as_slice()).checked_add(1)
     }
 
     fn first_loose(&self, whole: bool) -> Option<(usize, usize, Level)>

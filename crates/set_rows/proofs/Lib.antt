@@ -2,3 +2,4 @@ mod PeriodRows
 mod MachineRows
 mod FullRows
 mod LooseRows
+mod FoldRows

@@ -1,0 +1,32 @@
+use Rattle.std.proofs.Common.{◌≡◌, Some, None, List, ℕ, map, refl, sym, ap, ap₂, subst, ◌∙◌}
+use Rattle.std.specs.Arc.{arc_value}
+use Rattle.overlay_set.specs.Sets.{Image, State, numbers_of}
+use Rattle.overlay_set.specs.Swaps.{FoldPlan, missing}
+use Rattle.published_set.specs.Ops.{with_file}
+use Rattle.published_set.specs.Runs.{first_missing}
+use Rattle.published_set.specs.Sets.{IsStanding, PublishedSet, entry_of, files_of, images_in}
+use Rattle.published_set.proofs.Files.{images_length}
+use Rattle.published_set.proofs.Replacing.{folded_stands, missing_is}
+use Rattle.published_set.proofs.set.OverlaySet.replace.Goals as goal
+
+pub returns-in-Some-clause-cause : goal.returns-in-Some-clause-cause
+returns-in-Some-clause-cause c =
+    subst (λ (s : PublishedSet). missing c.args.work s.state ≡ Some c.in-Some.file) c.self.view_is
+    (sym (missing_is c.args.work (record { history = map entry_of c.self.inside.history.items; files = files_of c.self.inside.numbers.items (images_in (map arc_value c.self.inside.images.items)) }) c.self.inside.numbers.items
+    (images_in (map arc_value c.self.inside.images.items)) (c.self.invariant.0 ∙ sym (images_length arc_value c.self.inside.images.items)) refl)
+    ∙ ap₂ first_missing (sym c.numbers.ensures) (sym c.as_slice.ensures.value) ∙ sym c.in-Some.ensures)
+
+pub returns-in-None-clause-cause : goal.returns-in-None-clause-cause
+returns-in-None-clause-cause c =
+    subst (λ (s : PublishedSet). missing c.args.work s.state ≡ None) c.self.view_is
+    (sym (missing_is c.args.work (record { history = map entry_of c.self.inside.history.items; files = files_of c.self.inside.numbers.items (images_in (map arc_value c.self.inside.images.items)) }) c.self.inside.numbers.items
+    (images_in (map arc_value c.self.inside.images.items)) (c.self.invariant.0 ∙ sym (images_length arc_value c.self.inside.images.items)) refl)
+    ∙ ap₂ first_missing (sym c.numbers.ensures) (sym c.as_slice.ensures.value) ∙ sym c.in-None.ensures)
+
+pub returns-in-None-clause-standing : goal.returns-in-None-clause-standing
+returns-in-None-clause-standing c = λ store good.
+    subst IsStanding
+    (sym (c.put_fold.ensures
+    ∙ ap₂ (λ (names : List ℕ) (image : Image). record { base = c.args.self.now.base; state = with_file names image c.args.self.now.state })
+    (c.numbers-in-None.ensures ∙ ap (λ (plan : FoldPlan). numbers_of plan.files) c.into_parts-plan.ensures.plan) c.into_parts-plan.ensures.image))
+    (folded_stands c.args.self.now c.args.work c.requires.standing c.requires.fits (returns-in-None-clause-cause c) store good)

@@ -1,0 +1,52 @@
+-- What can be told of a place where folds are planned and committed.
+use Rattle.std.specs.Prelude.{◌≡◌, ◌≢◌, ℕ, ◌+◌, ◌-◌, ◌^◌, min, Option, Some, None, Result, Ok, Err}
+use Rattle.overlay_set.specs.Sets.{State}
+use Rattle.overlay_set.specs.Periods.{foldable}
+use Rattle.overlay_set.specs.Swaps.{FoldPlan, Fits, IsLater, missing}
+use Rattle.overlay_set.specs.Machines.{with_fold}
+use Rattle.published_set.specs.declared.errors.CommitError.{CommitError}
+use Rattle.published_set.specs.declared.errors.CommitError.TheVariants.{NoMemory, Overtaken}
+
+-- the state that it saw last, the calls of `plan` that were answered, the commits that were taken, and those that were overtaken
+pub record Site : Type 0 where
+  pub state : State
+  pub plans : ℕ
+  pub folds : ℕ
+  pub overtaken : ℕ
+
+-- one more, up to the last value of the type
+abbrev pub raised : ℕ → ℕ
+raised n = min (n + 1) (2 ^ 64 - 1)
+
+-- a plan was answered, which fits, exactly where something is foldable
+abbrev pub IsPlanned : State → Option FoldPlan → Type 0
+IsPlanned s None = foldable s ≡ None
+IsPlanned s (Some plan) = (foldable s ≢ None) × Fits plan s
+
+-- the counts are these
+abbrev pub AreCounts : Site → ℕ → ℕ → ℕ → Type 0
+AreCounts site plans folds overtaken = (site.plans ≡ plans) × (site.folds ≡ folds) × (site.overtaken ≡ overtaken)
+
+-- a call of `plan` is counted where it was answered
+abbrev pub PlanCounted : {T E : Type 0} → Site → Site → Result T E → Type 0
+PlanCounted before after (Ok plan) = AreCounts after (raised before.plans) before.folds before.overtaken
+PlanCounted before after (Err e) = AreCounts after before.plans before.folds before.overtaken
+
+-- the fold came in the place of its files, all of which were there, in a state that was the one seen last or a later one
+pub record IsFolded (plan : FoldPlan) (before after : State) : Type 0 where
+  pub found : State
+  pub later : IsLater before found
+  pub all : missing plan found ≡ None
+  pub folded : after ≡ with_fold plan found
+
+-- why a commit was answered so
+abbrev pub IsAnswered : {T : Type 0} → FoldPlan → State → State → Result T CommitError → Type 0
+IsAnswered plan before after (Ok done) = IsFolded plan before after
+IsAnswered plan before after (Err NoMemory) = Unit {0}
+IsAnswered plan before after (Err (Overtaken file)) = missing plan after ≡ Some file
+
+-- a commit is counted as it was answered
+abbrev pub CommitCounted : {T : Type 0} → Site → Site → Result T CommitError → Type 0
+CommitCounted before after (Ok done) = AreCounts after before.plans (raised before.folds) before.overtaken
+CommitCounted before after (Err NoMemory) = AreCounts after before.plans before.folds before.overtaken
+CommitCounted before after (Err (Overtaken file)) = AreCounts after before.plans before.folds (raised before.overtaken)
