@@ -1,27 +1,44 @@
 -- The groups of a category, one after another.
-use Rattle.std.proofs.Common.{◌≡◌, ◌≤◌, ℕ, ◌+◌, true, false, List, [], ◌∷◌, ◌++◌, map, Option, Some, None, refl, sym, ap, subst, ◌∙◌, inl, inr, arith}
-use Rattle.std.specs.Prelude.{MatchOption, bytes_eq, if◌then◌else◌}
-use Rattle.std.proofs.lemmas.Bool.{cases_Bool}
-use Rattle.live_model.specs.declared.points.Rect.{Rect}
+use Rattle.std.proofs.Common.{◌≡◌, ◌≤◌, ℕ, ◌+◌, Bool, true, false, List, [], ◌∷◌, ◌++◌, map, length, Option, Some, None, refl, sym, ap, ◌∙◌, arith, append_assoc}
+use Rattle.std.specs.Prelude.{bytes_eq}
+use Rattle.std.proofs.lemmas.List.{append-nil}
 use Rattle.live_model.specs.declared.records.PoiRec.{PoiRec}
 use Rattle.boxed_read.specs.Filters.{Hits}
-use Rattle.poi_section.specs.CategoryHits.{before_others, category_hits, group_hits, hits_or_none}
+use Rattle.poi_section.specs.CategoryHits.{all_hits, joined_hits, of_category}
 use Rattle.poi_section.specs.PoiSections.{GroupRead}
 
--- what a group adds
-pub one_group : (category : List ℕ) (rect : Rect) (g : GroupRead) (groups : List GroupRead) → before_others (if bytes_eq g.category category then Some (group_hits rect g) else None) (category_hits category rect groups) ≡ category_hits category rect (g ∷ groups)
-one_group category rect g groups =
-    elim (cases_Bool (bytes_eq g.category category)) [
-      | inl same ↦ rw same refl
-      | inr other ↦ rw other refl
-    ]
+-- a group of the category is the first
+pub of_it : (category : List ℕ) (g : GroupRead) (groups : List GroupRead) → bytes_eq g.category category ≡ true → of_category category (g ∷ groups) ≡ g ∷ of_category category groups
+of_it category g groups same = rw same refl
 
--- the records of hits before others
-pub records_before : (here : Option (Hits PoiRec)) (others : Hits PoiRec) → (before_others here others).records ≡ (hits_or_none here).records ++ others.records
-records_before None others = refl
-records_before (Some here) others = refl
+-- another is none
+pub of_another : (category : List ℕ) (g : GroupRead) (groups : List GroupRead) → bytes_eq g.category category ≡ false → of_category category (g ∷ groups) ≡ of_category category groups
+of_another category g groups other = rw other refl
 
--- and their blocks
-pub blocks_before : (here : Option (Hits PoiRec)) (others : Hits PoiRec) → (before_others here others).blocks ≡ (hits_or_none here).blocks + others.blocks
-blocks_before None others = refl
-blocks_before (Some here) others = refl
+-- the records of a section, and those after it
+pub records_of_all : (here : Option (Hits PoiRec)) (later : List (Hits PoiRec)) → (all_hits here later).records ≡ (all_hits here []).records ++ (joined_hits later).records
+records_of_all None later = refl
+records_of_all (Some here) later = ap (λ (rs : List PoiRec). rs ++ (joined_hits later).records) (sym (append-nil here.records))
+
+pub blocks_of_all : (here : Option (Hits PoiRec)) (later : List (Hits PoiRec)) → (all_hits here later).blocks ≡ (all_hits here []).blocks + (joined_hits later).blocks
+blocks_of_all None later = refl
+blocks_of_all (Some here) later = omega arith
+
+-- the next record of the section is that of all
+pub first_of_all : (old new : Option (Hits PoiRec)) (later : List (Hits PoiRec)) (view : PoiRec) → (all_hits old []).records ≡ view ∷ (all_hits new []).records → (all_hits old later).records ≡ view ∷ (all_hits new later).records
+first_of_all old new later view e =
+    records_of_all old later ∙ ap (λ (rs : List PoiRec). rs ++ (joined_hits later).records) e ∙ ap (λ (rs : List PoiRec). view ∷ rs) (sym (records_of_all new later))
+
+-- where it has none, it is that of those after it
+pub none_of_it : (old : Option (Hits PoiRec)) (later : List (Hits PoiRec)) → (all_hits old []).records ≡ [] → (all_hits old later).records ≡ (joined_hits later).records
+none_of_it old later e = records_of_all old later ∙ ap (λ (rs : List PoiRec). rs ++ (joined_hits later).records) e
+
+-- the next section
+pub first_of_next : (found new : Hits PoiRec) (all later : List (Hits PoiRec)) (view : PoiRec) → all ≡ found ∷ later → found.records ≡ view ∷ new.records → (joined_hits all).records ≡ view ∷ (all_hits (Some new) later).records
+first_of_next found new all later view e first = ap (λ (hs : List (Hits PoiRec)). (joined_hits hs).records) e ∙ ap (λ (rs : List PoiRec). rs ++ (joined_hits later).records) first
+
+pub none_of_next : (found : Hits PoiRec) (all later : List (Hits PoiRec)) → all ≡ found ∷ later → found.records ≡ [] → (joined_hits all).records ≡ (joined_hits later).records
+none_of_next found all later e none = ap (λ (hs : List (Hits PoiRec)). (joined_hits hs).records) e ∙ ap (λ (rs : List PoiRec). rs ++ (joined_hits later).records) none
+
+pub blocks_of_next : (found : Hits PoiRec) (all later : List (Hits PoiRec)) → all ≡ found ∷ later → (joined_hits all).blocks ≡ found.blocks + (joined_hits later).blocks
+blocks_of_next found all later e = ap (λ (hs : List (Hits PoiRec)). (joined_hits hs).blocks) e

@@ -1,5 +1,5 @@
 -- The points of interest of a category in a rectangle.
-use Rattle.std.specs.Prelude.{ℕ, ◌+◌, List, [], ◌++◌, filter, flat_map, map, sum, bytes_eq, Option, Some, None}
+use Rattle.std.specs.Prelude.{ℕ, List, ◌++◌, filter, flat_map, map, sum, bytes_eq, option_to_list, Option}
 use Rattle.live_model.specs.declared.points.Rect.{Rect}
 use Rattle.live_model.specs.declared.records.PoiRec.{PoiRec}
 use Rattle.boxed_read.specs.Filters.{Hits, hits}
@@ -14,19 +14,14 @@ of_category category groups = filter (λ g. bytes_eq g.category category) groups
 abbrev pub group_hits : Rect → GroupRead → Hits PoiRec
 group_hits rect g = hits (placed_in rect) rect g.section
 
--- of the groups of the category, the records in the rectangle and the blocks that are due, in the order of the file
+-- the hits of several sections, one section after another
+abbrev pub joined_hits : List (Hits PoiRec) → Hits PoiRec
+joined_hits found = record { records = flat_map (λ h. h.records) found; blocks = sum (map (λ h. h.blocks) found) }
+
+-- the records of the category in the rectangle, and the blocks that are due, in the order of the file
 abbrev pub category_hits : List ℕ → Rect → List GroupRead → Hits PoiRec
-category_hits category rect groups = record {
-  records = flat_map (λ g. (group_hits rect g).records) (of_category category groups);
-  blocks = sum (map (λ g. (group_hits rect g).blocks) (of_category category groups));
-}
+category_hits category rect groups = joined_hits (map (group_hits rect) (of_category category groups))
 
--- some hits, where there are any, before others
-abbrev pub before_others : Option (Hits PoiRec) → Hits PoiRec → Hits PoiRec
-before_others None others = others
-before_others (Some here) others = record { records = here.records ++ others.records; blocks = here.blocks + others.blocks }
-
--- the hits, where there are any
-abbrev pub hits_or_none : Option (Hits PoiRec) → Hits PoiRec
-hits_or_none None = record { records = []; blocks = 0 }
-hits_or_none (Some here) = here
+-- the hits of one section, if there is one, and of those after it
+abbrev pub all_hits : Option (Hits PoiRec) → List (Hits PoiRec) → Hits PoiRec
+all_hits here later = joined_hits (option_to_list here ++ later)

@@ -1,7 +1,7 @@
 //! The points of interest of a category in a rectangle, one after another.
 
-ghost use Rattle.std.specs.Prelude.{◌≡◌, ◌≤◌, ◌∷◌, ◌+◌, [], bytes_eq, map, MatchOption, None, Some, if◌then◌else◌};
-ghost use Rattle.poi_section.specs.CategoryHits.{category_hits, group_hits, hits_or_none};
+ghost use Rattle.std.specs.Prelude.{◌≡◌, ◌≤◌, ◌∷◌, ◌+◌, [], bytes_eq, map, IfSome, MatchOption};
+ghost use Rattle.poi_section.specs.CategoryHits.{all_hits, category_hits, of_category};
 ghost use Rattle.poi_section.specs.PoiSections.{HoldGroups, HoldsGroup, category_in, group_kept};
 
 use crate::class::PoiClass;
@@ -14,32 +14,22 @@ use obf_wire::Window;
 use std::marker::Model;
 use std::sync::ledger::Ledger;
 
-/// The hits of one group.
-type GroupCursor<'a> = HitCursor<'a, PoiClass, PlacedIn>;
-
 /// The points of interest of a category in a rectangle, seen as those that are still to come, and how many blocks may still have to be read for them. It
 /// takes no memory.
 #[derive(Drop)]
 pub struct CategoryCursor<'a> {
-    window: Window<'a>,
-    groups: &'a [GroupKept],
-    here: Option<GroupCursor<'a>>,
-    category: &'a str,
-    rect: Rect,
+    here: Option<HitCursor<'a, PoiClass, PlacedIn>>,
+    groups: CategoryGroups<'a>,
 }
 
 impl<'a> Model for CategoryCursor<'a> {
-    ghost use Rattle.std.specs.Prelude.{map};
     ghost use Rattle.live_model.specs.declared.records.PoiRec.{PoiRec};
     ghost use Rattle.boxed_read.specs.Filters.{Hits};
-    ghost use Rattle.poi_section.specs.CategoryHits.{before_others, category_hits};
-    ghost use Rattle.poi_section.specs.PoiSections.{HoldGroups, group_kept};
+    ghost use Rattle.poi_section.specs.CategoryHits.{all_hits};
 
     ghost Value = { Hits PoiRec };
 
-    ghost view = { λ c. before_others c.here (category_hits c.category.now c.rect (map (group_kept c.window.bytes.now) c.groups.now)) };
-
-    ghost invariant = { λ c. HoldGroups c.window.bytes.now c.groups.now };
+    ghost view = { λ c. all_hits c.here c.groups };
 }
 
 impl<'a> CategoryCursor<'a> {
@@ -54,11 +44,13 @@ impl<'a> CategoryCursor<'a> {
         ensures { result ≡ category_hits category.entry.now rect (map (group_kept window.entry.bytes.now) groups.entry.now) }
     {
         CategoryCursor {
-            window,
-            groups,
             here: None,
-            category,
-            rect,
+            groups: CategoryGroups {
+                window,
+                groups,
+                category,
+                rect,
+            },
         }
     }
 
@@ -67,46 +59,108 @@ impl<'a> CategoryCursor<'a> {
         ensures first { MatchOption result (self.old.records ≡ []) (λ view. self.old.records ≡ view ∷ self.new.records) }
         ensures steps { steps.new + self.new.blocks ≤ steps.old + self.old.blocks }
     {
-        let mut found = next_of(&mut self.here, steps);
-        while found.is_none() {
-            let Some((group, after)) = self.groups.split_first() else {
-                return None;
-            };
-            self.groups = after;
-            self.here = hits_in(self.window, group, self.category, self.rect);
-            found = next_of(&mut self.here, steps);
-        }
-        found
+        next_hit(&mut self.here, &mut self.groups, steps)
     }
 }
 
-/// The next of the hits of a group, if there is a group.
-fn next_of<'a, L: Ledger>(
-    here: &mut Option<GroupCursor<'a>>,
+/// The groups of a category that are still to come, seen as what is in a rectangle of each.
+#[derive(Drop)]
+struct CategoryGroups<'a> {
+    window: Window<'a>,
+    groups: &'a [GroupKept],
+    category: &'a str,
+    rect: Rect,
+}
+
+impl<'a> Model for CategoryGroups<'a> {
+    ghost use Rattle.std.specs.Prelude.{List, map};
+    ghost use Rattle.live_model.specs.declared.records.PoiRec.{PoiRec};
+    ghost use Rattle.boxed_read.specs.Filters.{Hits};
+    ghost use Rattle.poi_section.specs.CategoryHits.{group_hits, of_category};
+    ghost use Rattle.poi_section.specs.PoiSections.{HoldGroups, group_kept};
+
+    ghost Value = { List (Hits PoiRec) };
+
+    ghost view = { λ c. map (group_hits c.rect) (of_category c.category.now (map (group_kept c.window.bytes.now) c.groups.now)) };
+
+    ghost invariant = { λ c. HoldGroups c.window.bytes.now c.groups.now };
+}
+
+impl<'a> CategoryGroups<'a> {
+    /// What is in the rectangle of the next group; `None` where none is left.
+    fn next(&mut self) -> Option<HitCursor<'a, PoiClass, PlacedIn>>
+        ensures { MatchOption result (self.old ≡ []) (λ found. self.old ≡ found ∷ self.new) }
+    {
+        let Some((group, after)) = first_of(self.window, self.groups, self.category) else {
+            return None;
+        };
+        self.groups = after;
+        Some(section_of(self.window, group).hits(PlacedIn { rect: self.rect }))
+    }
+}
+
+/// The first of these groups that has a category, and those after it.
+#[tactic(auto, using(crate::proofs::CategoryWalk::of_it, crate::proofs::CategoryWalk::of_another))]
+fn first_of<'a>(
+    window: Window<'a>,
+    groups: &'a [GroupKept],
+    category: &str,
+) -> Option<(&'a GroupKept, &'a [GroupKept])>
+    requires { HoldGroups window.bytes.now groups.now }
+    ensures first { MatchOption result (of_category category.now (map (group_kept window.entry.bytes.now) groups.entry.now) ≡ []) (λ r. of_category category.now (map (group_kept window.entry.bytes.now) groups.entry.now) ≡ group_kept window.entry.bytes.now r.0.now ∷ of_category category.now (map (group_kept window.entry.bytes.now) r.1.now)) }
+    ensures hold { IfSome result (λ r. HoldsGroup window.entry.bytes.now r.0.now × HoldGroups window.entry.bytes.now r.1.now) }
+{
+    let mut rest = groups;
+    while let [group, after @ ..] = rest {
+        if is_of(window, group, category) {
+            return Some((group, after));
+        }
+        rest = after;
+    }
+    None
+}
+
+/// Whether a group has a category.
+fn is_of(window: Window<'_>, group: &GroupKept, category: &str) -> bool
+    requires { HoldsGroup window.bytes.now group.now }
+    ensures { result ≡ bytes_eq (category_in window.entry.bytes.now group.now) category.now }
+{
+    category_of(window, group).as_bytes() == category.as_bytes()
+}
+
+/// The next of what was found of one group, if there is one, or of the groups after it.
+#[tactic(auto, using(crate::proofs::CategoryWalk::first_of_all, crate::proofs::CategoryWalk::none_of_it, crate::proofs::CategoryWalk::first_of_next, crate::proofs::CategoryWalk::none_of_next, crate::proofs::CategoryWalk::blocks_of_next, crate::proofs::CategoryWalk::blocks_of_all))]
+fn next_hit<'a, L: Ledger>(
+    here: &mut Option<HitCursor<'a, PoiClass, PlacedIn>>,
+    groups: &mut CategoryGroups<'a>,
     steps: &mut Steps<L>,
 ) -> Option<View<'a, PoiClass>>
-    ensures first { MatchOption result ((hits_or_none here.old).records ≡ []) (λ view. (hits_or_none here.old).records ≡ view ∷ (hits_or_none here.new).records) }
-    ensures steps { steps.new + (hits_or_none here.new).blocks ≡ steps.old + (hits_or_none here.old).blocks }
+    ensures first { MatchOption result ((all_hits here.old groups.old).records ≡ []) (λ view. (all_hits here.old groups.old).records ≡ view ∷ (all_hits here.new groups.new).records) }
+    ensures steps { steps.new + (all_hits here.new groups.new).blocks ≤ steps.old + (all_hits here.old groups.old).blocks }
+{
+    if let Some(view) = next_of(here, steps) {
+        return Some(view);
+    }
+    *here = None;
+    while let Some(mut next) = groups.next() {
+        if let Some(view) = next.next(steps) {
+            *here = Some(next);
+            return Some(view);
+        }
+    }
+    None
+}
+
+/// The next of what was found of a group, if there is one.
+fn next_of<'a, L: Ledger>(
+    here: &mut Option<HitCursor<'a, PoiClass, PlacedIn>>,
+    steps: &mut Steps<L>,
+) -> Option<View<'a, PoiClass>>
+    ensures first { MatchOption result ((all_hits here.old []).records ≡ []) (λ view. (all_hits here.old []).records ≡ view ∷ (all_hits here.new []).records) }
+    ensures steps { steps.new + (all_hits here.new []).blocks ≡ steps.old + (all_hits here.old []).blocks }
 {
     match here {
         Some(here) => here.next(steps),
         None => None,
-    }
-}
-
-/// What is in the rectangle of a group, if it is of the category.
-fn hits_in<'a>(
-    window: Window<'a>,
-    group: &'a GroupKept,
-    category: &str,
-    rect: Rect,
-) -> Option<GroupCursor<'a>>
-    requires { HoldsGroup window.bytes.now group.now }
-    ensures { result ≡ (if bytes_eq (category_in window.entry.bytes.now group.entry.now) category.now then Some (group_hits rect (group_kept window.entry.bytes.now group.entry.now)) else None) }
-{
-    if category_of(window, group).as_bytes() == category.as_bytes() {
-        Some(section_of(window, group).hits(PlacedIn { rect }))
-    } else {
-        None
     }
 }
