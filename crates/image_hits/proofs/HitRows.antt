@@ -64,13 +64,16 @@ module _ {A : Type 0} (reads : Reading A) where
       let boxes : List Rect = map (λ (leaf : Leaf). leaf.node.box) (leaves_in section.nodes) in
       ap (λ (rs : List (List A)). length rs) (sym (map_met (block_records reads) rect boxes section.blocks)) ∙ length-map (meeting rect boxes section.blocks) (block_records reads)
 
+  abbrev as_hits : ℕ → List A → Hits A
+  as_hits blocks records = record { records = records; blocks = blocks }
+
   -- the hits of a section, where the tests agree
   section_hits : (p q : A → Bool) → ((block : Block) (entry : Entry) → p (reads block entry) ≡ q (reads block entry)) → (rect : Rect) (section : Section)
       → hits p rect (in_boxes reads section) ≡ record { records = filter q (records_in reads section); blocks = due_in rect section }
   section_hits p q same rect section =
-      ap (λ (rs : List A). record { records = filter p rs; blocks = due rect (in_boxes reads section) }) (joined_is section.blocks)
-      ∙ ap (λ (rs : List A). record { records = rs; blocks = due rect (in_boxes reads section) }) (alike p q same section.blocks)
-      ∙ ap (λ (n : ℕ). record { records = filter q (records_in reads section); blocks = n }) (due_is rect section)
+      ap (λ (rs : List A). as_hits (due rect (in_boxes reads section)) (filter p rs)) (joined_is section.blocks)
+      ∙ ap (as_hits (due rect (in_boxes reads section))) (alike p q same section.blocks)
+      ∙ ap (λ (n : ℕ). as_hits n (filter q (records_in reads section))) (due_is rect section)
 
   pub found_hits : (p q : A → Bool) → ((block : Block) (entry : Entry) → p (reads block entry) ≡ q (reads block entry)) → (rect : Rect) (section : Section) (boxed : InBoxes A) (found : Hits A)
       → boxed ≡ in_boxes reads section → found ≡ hits p rect boxed → found ≡ record { records = filter q (records_in reads section); blocks = due_in rect section }
@@ -131,28 +134,40 @@ module _ (rules : List Rule) (category : List ℕ) (rect : Rect) where
   none_given group other =
       alike (poi_read group.category.value) gives (λ (p : PoiRec). false) (elsewhere group.category.value other) group.section.blocks ∙ nothing (group_records group)
 
-  all_given : (group : Group) → is_of group ≡ true → (group_hits rect (group_read group)) ≡ record { records = filter gives (group_records group); blocks = due_in rect group.section }
-  all_given group same = section_hits (poi_read group.category.value) (placed_in rect) gives (in_category group.category.value same) rect group.section
+  all_given : (group : Group) → is_of group ≡ true → (group_hits rect (group_read group)).records ≡ filter gives (group_records group)
+  all_given group same = ap (λ (found : Hits PoiRec). found.records) (section_hits (poi_read group.category.value) (placed_in rect) gives (in_category group.category.value same) rect group.section)
+
+  groups_records : (groups : List Group) → (category_hits category rect (map group_read groups)).records ≡ filter gives (flat_map group_records groups)
+  groups_records [] = refl
+  groups_records (group ∷ groups) =
+      let rest = groups_records groups in
+      let split = filter-append gives (group_records group) (flat_map group_records groups) in
+      elim (cases_Bool (is_of group)) [
+        | inl same ↦ rw same
+              (ap (λ (rs : List PoiRec). rs ++ (category_hits category rect (map group_read groups)).records) (all_given group same) ∙ ap (λ (rs : List PoiRec). filter gives (group_records group) ++ rs) rest ∙ sym split)
+        | inr other ↦ rw other (rest ∙ sym (split ∙ ap (λ (rs : List PoiRec). rs ++ filter gives (flat_map group_records groups)) (none_given group other)))
+      ]
+
+  groups_due : (groups : List Group) → map (λ (h : Hits PoiRec). h.blocks) (map (group_hits rect) (of_category category (map group_read groups))) ≡ map (λ (g : Group). due_in rect g.section) (filter is_of groups)
+  groups_due [] = refl
+  groups_due (group ∷ groups) =
+      let rest = groups_due groups in
+      let others : List ℕ = map (λ (h : Hits PoiRec). h.blocks) (map (group_hits rect) (of_category category (map group_read groups))) in
+      elim (cases_Bool (is_of group)) [
+        | inl same ↦ rw same (ap (λ (n : ℕ). n ∷ others) (due_is (poi_read group.category.value) rect group.section) ∙ ap (λ (ns : List ℕ). due_in rect group.section ∷ ns) rest)
+        | inr other ↦ rw other rest
+      ]
 
   abbrev found_in : List Group → Hits PoiRec
   found_in groups = record { records = filter gives (flat_map group_records groups); blocks = sum (map (λ (g : Group). due_in rect g.section) (filter is_of groups)) }
 
-  abbrev before : Hits PoiRec → Hits PoiRec → Hits PoiRec
-  before one others = record { records = one.records ++ others.records; blocks = one.blocks + others.blocks }
+  abbrev made_of : List ℕ → List PoiRec → Hits PoiRec
+  made_of blocks records = record { records = records; blocks = sum blocks }
 
   groups_hit : (groups : List Group) → category_hits category rect (map group_read groups) ≡ found_in groups
-  groups_hit [] = refl
-  groups_hit (group ∷ groups) =
-      let rest = groups_hit groups in
-      let split = filter-append gives (group_records group) (flat_map group_records groups) in
-      let with_records : ℕ → List PoiRec → Hits PoiRec = λ n rs. record { records = rs; blocks = n } in
-      elim (cases_Bool (is_of group)) [
-        | inl same ↦ rw same
-              (ap (λ (one : Hits PoiRec). before one (category_hits category rect (map group_read groups))) (all_given group same) ∙ ap (before (record { records = filter gives (group_records group); blocks = due_in rect group.section })) rest
-                  ∙ ap (with_records (due_in rect group.section + (found_in groups).blocks)) (sym split))
-        | inr other ↦ rw other
-              (rest ∙ ap (with_records (found_in groups).blocks) (sym (split ∙ ap (λ (rs : List PoiRec). rs ++ filter gives (flat_map group_records groups)) (none_given group other))))
-      ]
+  groups_hit groups =
+      ap (made_of (map (λ (h : Hits PoiRec). h.blocks) (map (group_hits rect) (of_category category (map group_read groups))))) (groups_records groups)
+      ∙ ap (λ (ns : List ℕ). made_of ns (filter gives (flat_map group_records groups))) (groups_due groups)
 
 pub pois_hit : (image : Seen) (category : List ℕ) (rect : Rect) (groups : List GroupRead) (found : Hits PoiRec) → groups ≡ map group_read (groups_of image) → found ≡ category_hits category rect groups → found ≡ poi_hits image category rect
 pois_hit image category rect groups found e is = is ∙ ap (category_hits category rect) e ∙ groups_hit image.rules category rect (groups_of image)

@@ -1,6 +1,7 @@
 -- The groups of a category, one after another.
 use Rattle.std.proofs.Common.{◌≡◌, ◌≤◌, ℕ, ◌+◌, Bool, true, false, List, [], ◌∷◌, ◌++◌, map, length, Option, Some, None, refl, sym, ap, ◌∙◌, arith, append_assoc}
-use Rattle.std.specs.Prelude.{bytes_eq}
+use Rattle.std.specs.Prelude.{bytes_eq, sum}
+use Rattle.std.proofs.lemmas.List.Sums.{sum_by-cons}
 use Rattle.std.proofs.lemmas.List.{append-nil}
 use Rattle.live_model.specs.declared.records.PoiRec.{PoiRec}
 use Rattle.boxed_read.specs.Filters.{Hits}
@@ -20,9 +21,12 @@ pub records_of_all : (here : Option (Hits PoiRec)) (later : List (Hits PoiRec)) 
 records_of_all None later = refl
 records_of_all (Some here) later = ap (λ (rs : List PoiRec). rs ++ (joined_hits later).records) (sym (append-nil here.records))
 
+sum_first : (n : ℕ) (ns : List ℕ) → sum (n ∷ ns) ≡ n + sum ns
+sum_first n ns = sum_by-cons (λ (m : ℕ). m) n ns
+
 pub blocks_of_all : (here : Option (Hits PoiRec)) (later : List (Hits PoiRec)) → (all_hits here later).blocks ≡ (all_hits here []).blocks + (joined_hits later).blocks
-blocks_of_all None later = refl
-blocks_of_all (Some here) later = omega arith
+blocks_of_all None later = omega arith
+blocks_of_all (Some here) later = omega (arith, sum_first here.blocks (map (λ (h : Hits PoiRec). h.blocks) later), sum_first here.blocks [])
 
 -- the next record of the section is that of all
 pub first_of_all : (old new : Option (Hits PoiRec)) (later : List (Hits PoiRec)) (view : PoiRec) → (all_hits old []).records ≡ view ∷ (all_hits new []).records → (all_hits old later).records ≡ view ∷ (all_hits new later).records
@@ -41,4 +45,4 @@ pub none_of_next : (found : Hits PoiRec) (all later : List (Hits PoiRec)) → al
 none_of_next found all later e none = ap (λ (hs : List (Hits PoiRec)). (joined_hits hs).records) e ∙ ap (λ (rs : List PoiRec). rs ++ (joined_hits later).records) none
 
 pub blocks_of_next : (found : Hits PoiRec) (all later : List (Hits PoiRec)) → all ≡ found ∷ later → (joined_hits all).blocks ≡ found.blocks + (joined_hits later).blocks
-blocks_of_next found all later e = ap (λ (hs : List (Hits PoiRec)). (joined_hits hs).blocks) e
+blocks_of_next found all later e = ap (λ (hs : List (Hits PoiRec)). (joined_hits hs).blocks) e ∙ sum_first found.blocks (map (λ (h : Hits PoiRec). h.blocks) later)

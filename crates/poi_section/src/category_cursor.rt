@@ -89,7 +89,7 @@ impl<'a> Model for CategoryGroups<'a> {
 impl<'a> CategoryGroups<'a> {
     /// What is in the rectangle of the next group; `None` where none is left.
     fn next(&mut self) -> Option<HitCursor<'a, PoiClass, PlacedIn>>
-        ensures { MatchOption result (self.old ≡ []) (λ found. self.old ≡ found ∷ self.new) }
+        ensures { MatchOption result ((self.old ≡ []) × (self.new ≡ [])) (λ found. self.old ≡ found ∷ self.new) }
     {
         let Some((group, after)) = first_of(self.window, self.groups, self.category) else {
             return None;
