@@ -3,3 +3,5 @@ pub mod BlockRead
 pub mod SectionRead
 pub mod PointWalk
 pub mod MeetingWalk
+pub mod HitWalk
+pub mod Pruning

@@ -9,19 +9,15 @@ use Rattle.live_model.specs.Points.{overlaps}
 use Rattle.box_tree.specs.Search.{first_meeting}
 use Rattle.boxed_exact.specs.declared.fields.Payload.{Payload}
 use Rattle.boxed_check.specs.declared.kept.Kept.{Kept}
-use Rattle.live_model.specs.Ids.{Id}
 use Rattle.obf_wire.specs.Fields.{Window, part_of}
 use Rattle.file_grammar.specs.declared.parts.Boxed.{Boxed}
-use Rattle.file_grammar.specs.declared.parts.Part.TheVariants.{Boxes}
 use Rattle.file_grammar.specs.BoxRules.{Boxing}
-use Rattle.file_grammar.specs.Listed.{Reading, block_records}
-use Rattle.file_grammar.specs.Messages.{Fields}
-use Rattle.file_grammar.specs.Readings.{message_at}
-use Rattle.file_grammar.specs.Sections.{Leaf, leaves_in, section_in}
-use Rattle.boxed_read.specs.Meeting.{Nearby, meeting, met}
-use Rattle.boxed_read.specs.Records.{IsReading, records_at, records_of}
+use Rattle.file_grammar.specs.Listed.{Reading}
+use Rattle.boxed_read.specs.Meeting.{meeting, met}
+use Rattle.boxed_read.specs.Records.{records_at, records_of}
 use Rattle.boxed_read.specs.Sound.{HoldBlocks, HoldsBlock, IsChecked}
-use Rattle.boxed_read.proofs.SectionRead.{checked_blocks, section_read}
+use Rattle.boxed_read.specs.Steps.{Coming}
+use Rattle.boxed_read.proofs.SectionRead.{checked_blocks}
 
 -- the index that is found among leaves numbered from this one, after so many of them
 abbrev searched : Rect → ℕ → ℕ → List Rect → Option ℕ
@@ -106,24 +102,17 @@ map_met {A} {B} f rect (leaf ∷ leaves) (b ∷ bs) =
       | inr later ↦ rw later (map_met f rect leaves bs)
     ]
 
--- a cursor that has read nothing
-abbrev at_first : {A : Type 0} → List (List A) → List Rect → Rect → Nearby A
-at_first blocks leaves rect = record { here = []; blocks = blocks; leaves = leaves; rect = rect; from = 0 }
+-- the records of the blocks that are met
+pub records_met : {A : Type 0} (class : Boxed) (reads : Reading A) (bytes : List ℕ) (kept : Kept) (rect : Rect)
+    → records_of class reads bytes (met rect kept 0) ≡ meeting rect kept.tree (records_of class reads bytes kept.blocks.items)
+records_met class reads bytes kept rect = map_met (λ (span : Payload). records_at class reads (part_of bytes span.from span.to)) rect kept.tree kept.blocks.items
 
-abbrev boxes_in : Fields → List Rect
-boxes_in fields = map (λ (leaf : Leaf). leaf.node.box) (leaves_in (section_in fields).nodes)
-
--- what was kept of a section is where the records stand that are met
-pub section_met : {A : Type 0} (class : Boxed) (boxing : Boxing) (reads : List ℕ → Reading A) (id_of : A → Id) → IsReading boxing reads id_of → (group : List ℕ) (w : Window) (kept : Kept) (fields : Fields) (rect : Rect)
-    → IsChecked class boxing w kept → message_at (Boxes class) w ≡ Ok fields
-    → at_first (records_of class (reads group) w.bytes (met rect kept 0)) kept.tree rect ≡ at_first (meeting rect (boxes_in fields) (map (block_records (reads group)) (section_in fields).blocks)) (boxes_in fields) rect
-section_met {A} class boxing reads id_of law group w kept fields rect h e =
-    let same : h.is.fields ≡ fields = let both = sym h.is.read ∙ e in cc in
-    let tree : kept.tree ≡ boxes_in fields = h.is.tree ∙ ap boxes_in same in
-    let all : List (List A) = map (block_records (reads group)) (section_in fields).blocks in
-    let blocks = map_met (λ (span : Payload). records_at class (reads group) (part_of w.bytes span.from span.to)) rect kept.tree kept.blocks.items
-    ∙ ap (λ (bs : List (List A)). meeting rect kept.tree bs) (section_read class boxing reads id_of law group w kept fields h e) in
-    ap (λ (bs : List (List A)). at_first bs kept.tree rect) blocks ∙ ap (λ (ls : List Rect). at_first (meeting rect ls all) ls rect) tree
+-- so a cursor over them begins
+pub coming_met : {A : Type 0} (class : Boxed) (reads : Reading A) (bytes : List ℕ) (kept : Kept) (rect : Rect) (coming : Coming A)
+    → coming ≡ record { here = []; blocks = records_of class reads bytes (met rect kept 0) } → coming ≡ record { here = []; blocks = meeting rect kept.tree (records_of class reads bytes kept.blocks.items) }
+coming_met {A} class reads bytes kept rect coming e =
+    let start : List (List A) → Coming A = λ blocks. record { here = []; blocks = blocks } in
+    e ∙ ap start (records_met class reads bytes kept rect)
 
 -- every rule holds of each block that is met
 pub met_hold : (class : Boxed) (boxing : Boxing) (w : Window) (kept : Kept) (rect : Rect) → IsChecked class boxing w kept → HoldBlocks class boxing w.bytes (met rect kept 0)

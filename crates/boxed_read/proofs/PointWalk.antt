@@ -5,6 +5,8 @@ use Rattle.std.specs.List.{list_all}
 use Rattle.std.proofs.lemmas.Bool.{and_parts}
 use Rattle.std.proofs.lemmas.List.{append-nil}
 use Rattle.live_model.specs.declared.points.Point.{Point}
+use Rattle.live_model.specs.declared.points.Rect.{Rect}
+use Rattle.live_model.specs.Geometry.{box_around}
 use Rattle.live_model.specs.Ids.{Id, IsId, ordinal}
 use Rattle.obf_wire.specs.Fields.{Window}
 use Rattle.obf_wire.specs.Zigzag.{unzigzag}
@@ -17,6 +19,7 @@ use Rattle.boxed_exact.specs.declared.points.Step.{Step}
 use Rattle.boxed_exact.specs.Numbers.{AreFew, StepsOn}
 use Rattle.boxed_exact.proofs.NumberWalk.{at_place, no_places}
 use Rattle.boxed_laws.proofs.ObjectNumbers.{object_good, ordinal_again}
+use Rattle.boxed_read.specs.Bounds.{bounds_of, widened}
 use Rattle.boxed_read.specs.Sound.{HoldsSteps}
 
 -- an ordinal is that of an object
@@ -79,3 +82,47 @@ points_on numbers point to now new w step l next x y more =
 pub points_all : (numbers : List ℕ) (point : Point) (now : List Point) (w : Window) → PointsRead numbers point now w → ((numbers : List ℕ) → numbers_at w ≡ Ok numbers → AreFew numbers) → now ≡ map point_from (places numbers)
 points_all numbers point now w l last =
     sym (l.read ∙ ap (λ (p : List Place). now ++ map point_from p) (no_places (pos point.x, pos point.y) l.rest (last l.rest l.left)) ∙ append-nil now)
+
+-- the box around one, if there is one, and points
+abbrev around_more : Option Rect → List Point → Option Rect
+around_more None points = bounds_of points
+around_more (Some r) points = Some (box_around r points)
+
+-- behind some of the points, with the box around them
+pub record BoundsRead (numbers : List ℕ) (point : Point) (now : Option Rect) (w : Window) : Type 0 where
+  pub rest : List ℕ
+  pub left : numbers_at w ≡ Ok rest
+  pub read : bounds_of (map point_from (places numbers)) ≡ around_more now (map point_from (places_from (pos point.x, pos point.y) rest))
+
+pub bounds_begin : (numbers : List ℕ) (w : Window) → numbers_at w ≡ Ok numbers → BoundsRead numbers (record { x = 0; y = 0 }) None w
+bounds_begin numbers w e = record { rest = numbers; left = e; read = refl }
+
+one_more : (now : Option Rect) (p : Point) (points : List Point) → around_more now (p ∷ points) ≡ around_more (Some (widened now p)) points
+one_more None p points = refl
+one_more (Some r) p points = refl
+
+pub bounds_on : (numbers : List ℕ) (point to : Point) (now : Option Rect) (new : Rect) (w : Window) (step : Step) → BoundsRead numbers point now w → ((numbers : List ℕ) → numbers_at w ≡ Ok numbers → StepsOn w numbers step)
+    → pos to.x ≡ pos point.x +ℤ step.east → pos to.y ≡ pos point.y +ℤ step.south → new ≡ widened now to → BoundsRead numbers to (Some new) (at_place w step.next)
+bounds_on numbers point to now new w step l next x y more =
+    let s = next l.rest l.left in
+    let east : pos to.x ≡ pos point.x +ℤ unzigzag s.x = x ∙ ap (λ (e : ℤ). pos point.x +ℤ e) s.east in
+    let south : pos to.y ≡ pos point.y +ℤ unzigzag s.y = y ∙ ap (λ (e : ℤ). pos point.y +ℤ e) s.south in
+    let there : ℤ → ℤ → List Point = λ x y. point_from (x, y) ∷ listed_from x y s.rest in
+    record {
+      rest = s.rest;
+      left = s.others;
+      read =
+          l.read ∙ ap (λ (ns : List ℕ). around_more now (listed_from (pos point.x) (pos point.y) ns)) s.is
+          ∙ ap (λ (x : ℤ). around_more now (there x (pos point.y +ℤ unzigzag s.y))) (sym east)
+          ∙ ap (λ (y : ℤ). around_more now (there (pos to.x) y)) (sym south)
+          ∙ one_more now to (listed_from (pos to.x) (pos to.y) s.rest)
+          ∙ ap (λ (r : Rect). around_more (Some r) (listed_from (pos to.x) (pos to.y) s.rest)) (sym more);
+    }
+
+nothing_more : (now : Option Rect) → around_more now [] ≡ now
+nothing_more None = refl
+nothing_more (Some r) = refl
+
+pub bounds_all : (numbers : List ℕ) (point : Point) (now : Option Rect) (w : Window) → BoundsRead numbers point now w → ((numbers : List ℕ) → numbers_at w ≡ Ok numbers → AreFew numbers) → now ≡ bounds_of (map point_from (places numbers))
+bounds_all numbers point now w l last =
+    sym (l.read ∙ ap (λ (p : List Place). around_more now (map point_from p)) (no_places (pos point.x, pos point.y) l.rest (last l.rest l.left)) ∙ nothing_more now)

@@ -3,6 +3,7 @@ use Rattle.std.proofs.Common.{◌≡◌, ℕ, ◌+◌, ◌≤◌, List, [], ◌�
 use Rattle.std.specs.Prelude.{flat_map}
 use Rattle.std.specs.Option.{option_map_or}
 use Rattle.std.proofs.lemmas.List.{length-map}
+use Rattle.live_model.specs.declared.points.Rect.{Rect}
 use Rattle.live_model.specs.Ids.{Id}
 use Rattle.obf_wire.specs.declared.file.FileBreak.{FileBreak}
 use Rattle.obf_wire.specs.Fields.{Window}
@@ -13,11 +14,12 @@ use Rattle.file_grammar.specs.Facts.{AllHold, Fact}
 use Rattle.file_grammar.specs.Listed.{Reading, block_records}
 use Rattle.file_grammar.specs.Messages.{Fields}
 use Rattle.file_grammar.specs.Readings.{message_at}
-use Rattle.file_grammar.specs.Sections.{Block, block_with, section_in}
+use Rattle.file_grammar.specs.Sections.{Block, Leaf, block_with, leaves_in, section_in}
 use Rattle.boxed_exact.specs.declared.fields.Payload.{Payload}
 use Rattle.boxed_laws.proofs.FittingRecords.{Holds, all_before, all_behind}
 use Rattle.boxed_check.specs.declared.kept.Kept.{Kept}
 use Rattle.boxed_check.specs.Keeping.{AreSpans, entries_of}
+use Rattle.boxed_read.specs.Meeting.{InBoxes, in_boxes}
 use Rattle.boxed_read.specs.Records.{IsReading, fields_read, records_of}
 use Rattle.boxed_read.specs.Sound.{HoldBlocks, IsChecked}
 use Rattle.boxed_read.specs.Steps.{joined}
@@ -66,6 +68,15 @@ module _ {A : Type 0} (class : Boxed) (boxing : Boxing) (reads : List ℕ → Re
   section_read w kept fields h e =
       let same : h.is.fields ≡ fields = let both = sym h.is.read ∙ e in cc in
       spans_read w.bytes kept.blocks.items (section_in h.is.fields).blocks h.is.blocks ∙ ap (λ (fs : Fields). map (block_records (reads group)) (section_in fs).blocks) same
+
+  -- with the boxes of their leaves
+  pub section_boxed : (w : Window) (kept : Kept) (fields : Fields) → IsChecked class boxing w kept → message_at (Boxes class) w ≡ Ok fields
+      → record { blocks = records_of class (reads group) w.bytes kept.blocks.items; boxes = kept.tree } ≡ in_boxes (reads group) (section_in fields)
+  section_boxed w kept fields h e =
+      let same : h.is.fields ≡ fields = let both = sym h.is.read ∙ e in cc in
+      let made : List (List A) → List Rect → InBoxes A = λ blocks boxes. record { blocks = blocks; boxes = boxes } in
+      ap (λ (blocks : List (List A)). made blocks kept.tree) (section_read w kept fields h e)
+      ∙ ap (made (map (block_records (reads group)) (section_in fields).blocks)) (h.is.tree ∙ ap (λ (fs : Fields). map (λ (leaf : Leaf). leaf.node.box) (leaves_in (section_in fs).nodes)) same)
 
   counted : (blocks : List Block) → length (entries_of blocks) ≡ length (joined (map (block_records (reads group)) blocks))
   counted [] = refl

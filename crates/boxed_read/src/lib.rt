@@ -6,12 +6,15 @@
 //!
 //! The layer above may rely on this: the views of a cursor are the records of the section, each once, in the order of the file,
 //! and a step is counted for each block that is read. Another cursor gives those of the blocks whose leaf's box meets a
-//! rectangle, and counts the nodes of the tree that it enters. A class of records says how one record is read (`ReadClass`).
+//! rectangle, and reads no other block; and a third those that pass a filter (`SpatialFilter`), of the same blocks. A class of records says how one
+//! record is read (`ReadClass`).
 #![tactic(auto)]
 
 mod class;
 mod cursor;
 mod entries;
+mod filter;
+mod hits;
 mod meeting;
 mod parts;
 mod section;
@@ -20,7 +23,9 @@ mod view;
 pub use class::ReadClass;
 pub use cursor::AllCursor;
 pub use entries::Entries;
+pub use filter::SpatialFilter;
+pub use hits::HitCursor;
 pub use meeting::MeetingCursor;
-pub use parts::{object, one_point, point_after, points, text};
+pub use parts::{meets, object, one_point, overlaps, point_after, points, text};
 pub use section::Section;
 pub use view::View;

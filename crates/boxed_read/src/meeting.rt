@@ -1,30 +1,25 @@
 //! The records of the blocks that a rectangle meets, one after another.
 
-ghost use Rattle.std.specs.Prelude.{◌≡◌, ◌≢◌, ◌∷◌, ◌+◌, ◌≤◌, ◌<◌, ◌^◌, [], Ok, drop, map, slice_get, IfSome, MatchOption};
-ghost use Rattle.obf_wire.specs.Windows.{range_of};
-ghost use Rattle.box_tree.specs.Search.{nodes_meeting};
-ghost use Rattle.box_tree.specs.Trees.{levels_of};
-ghost use Rattle.file_grammar.specs.declared.parts.Part.TheVariants.{Boxes};
-ghost use Rattle.file_grammar.specs.Listed.{block_records};
-ghost use Rattle.file_grammar.specs.Messages.{Fields};
-ghost use Rattle.file_grammar.specs.Readings.{message_at};
-ghost use Rattle.file_grammar.specs.Sections.{leaves_in, section_in};
-ghost use Rattle.boxed_read.specs.Meeting.{Nearby, meeting, met, nearby_left};
-ghost use Rattle.boxed_read.specs.Sound.{IsChecked};
-ghost use Rattle.boxed_read.specs.Steps.{to_read};
+ghost use Rattle.std.specs.Prelude.{◌≡◌, ◌∷◌, ◌+◌, ◌<◌, ◌^◌, [], drop, slice_get, IfSome, MatchOption};
+ghost use Rattle.box_tree.specs.Search.{first_meeting};
+ghost use Rattle.boxed_read.specs.Meeting.{met};
+ghost use Rattle.boxed_read.specs.Records.{records_of};
+ghost use Rattle.boxed_read.specs.Sound.{HoldBlocks};
+ghost use Rattle.boxed_read.specs.Steps.{Coming, still_left, to_read};
 
 use crate::class::ReadClass;
 use crate::entries::Entries;
 use crate::view::View;
+use box_tree::Tree;
 use boxed_check::Kept;
 use boxed_exact::Payload;
 use live_model::{Rect, Steps};
 use obf_wire::Window;
-use std::marker::Model;
-use std::sync::ledger::Ledger;
+use std::marker::{Brand, Model};
+use std::sync::ledger::{Blank, Ledger};
 
-/// The records of those blocks of a section whose leaf has a box that meets a rectangle, seen as those that are still to come. It takes no
-/// memory.
+/// The records of those blocks of a section whose leaf has a box that meets a rectangle, seen as those that are still to come: of the block that
+/// is being read, and of each after it. It takes no memory.
 #[derive(Drop)]
 pub struct MeetingCursor<'a, C: ReadClass> {
     window: Window<'a>,
@@ -38,41 +33,31 @@ pub struct MeetingCursor<'a, C: ReadClass> {
 impl<'a, C: ReadClass> Model for MeetingCursor<'a, C> {
     ghost use Rattle.std.specs.Prelude.{[]};
     ghost use Rattle.std.specs.Option.{option_map_or};
-    ghost use Rattle.boxed_read.specs.Meeting.{Nearby, met};
+    ghost use Rattle.boxed_read.specs.Meeting.{met};
     ghost use Rattle.boxed_read.specs.Records.{records_of};
     ghost use Rattle.boxed_read.specs.Sound.{HoldBlocks};
+    ghost use Rattle.boxed_read.specs.Steps.{Coming};
 
-    ghost Value = { Nearby C.Record };
+    ghost Value = { Coming C.Record };
 
     ghost view = { λ c. record {
       here = option_map_or (λ here. here) c.here [];
       blocks = records_of C.class (C.reads c.group.now) c.window.bytes.now (met c.rect c.kept.now c.from);
-      leaves = c.kept.now.tree;
-      rect = c.rect;
-      from = c.from;
     } };
 
     ghost invariant = { λ c. HoldBlocks C.class C.boxing c.window.bytes.now (met c.rect c.kept.now c.from) };
 }
 
 impl<'a, C: ReadClass> MeetingCursor<'a, C> {
-    /// The records of the section in a window of which a check left this, in a group of this name, whose leaf's box meets the rectangle, edges
-    /// included.
-    pub fn new(
+    /// The records of the blocks that stand there and that the rectangle meets, of which every rule holds.
+    pub(crate) fn new(
         window: Window<'a>,
         kept: &'a Kept,
         group: &'a str,
         rect: Rect,
     ) -> MeetingCursor<'a, C>
-        requires { IsChecked C.class C.boxing (range_of window) kept.now }
-        ensures { (fields : Fields) → message_at (Boxes C.class) (range_of window.entry) ≡ Ok fields
-            → result ≡ record {
-              here = [];
-              blocks = meeting rect (map (λ leaf. leaf.node.box) (leaves_in (section_in fields).nodes)) (map (block_records (C.reads group.entry.now)) (section_in fields).blocks);
-              leaves = map (λ leaf. leaf.node.box) (leaves_in (section_in fields).nodes);
-              rect = rect;
-              from = 0;
-            } }
+        requires { HoldBlocks C.class C.boxing window.bytes.now (met rect kept.now 0) }
+        ensures { result ≡ record { here = []; blocks = records_of C.class (C.reads group.entry.now) window.entry.bytes.now (met rect kept.entry.now 0) } }
     {
         MeetingCursor {
             window,
@@ -84,21 +69,19 @@ impl<'a, C: ReadClass> MeetingCursor<'a, C> {
         }
     }
 
-    /// The next record, or `None` where none is left. Where the next block is searched for, a step is counted for each node of the tree that is
-    /// entered, its leaf among them.
+    /// The next record, or `None` where none is left. A step is counted where a block is read for it.
     pub fn next<L: Ledger>(&mut self, steps: &mut Steps<L>) -> Option<View<'a, C>>
-        ensures first { MatchOption result (nearby_left self.old ≡ []) (λ view. nearby_left self.old ≡ view ∷ nearby_left self.new) }
+        ensures first { MatchOption result (still_left self.old ≡ []) (λ view. still_left self.old ≡ view ∷ still_left self.new) }
         ensures blocks { self.new.blocks ≡ drop (to_read self.old.here self.old.blocks) self.old.blocks }
-        ensures same { (self.new.leaves ≡ self.old.leaves) × (self.new.rect ≡ self.old.rect) }
-        ensures none { self.old.here ≢ [] → steps.new ≡ steps.old }
-        ensures steps { steps.new ≤ steps.old + nodes_meeting (levels_of self.old.leaves) self.old.rect self.old.from }
+        ensures steps { steps.new ≡ steps.old + to_read self.old.here self.old.blocks }
     {
         if let Some(view) = self.next_here() {
             return Some(view);
         }
-        let Some((span, after)) = next_meeting(self.kept, &self.rect, self.from, steps) else {
+        let Some((span, after)) = next_meeting(self.kept, &self.rect, self.from) else {
             return None;
         };
+        steps.tick();
         let mut here = Entries::of_block(self.window.part(span.from, span.to), self.group);
         let view = here.next();
         self.here = Some(here);
@@ -109,7 +92,7 @@ impl<'a, C: ReadClass> MeetingCursor<'a, C> {
     /// The next record of the block that is being read.
     fn next_here(&mut self) -> Option<View<'a, C>>
         ensures first { MatchOption result (self.old.here ≡ []) (λ view. self.old.here ≡ view ∷ self.new.here) }
-        ensures same { (self.new.blocks ≡ self.old.blocks) × (self.new.leaves ≡ self.old.leaves) × (self.new.rect ≡ self.old.rect) × (self.new.from ≡ self.old.from) }
+        ensures blocks { self.new.blocks ≡ self.old.blocks }
     {
         match &mut self.here {
             Some(here) => here.next(),
@@ -119,22 +102,34 @@ impl<'a, C: ReadClass> MeetingCursor<'a, C> {
 }
 
 /// Where the first block from a leaf on stands that the rectangle meets, and the leaf after its own.
-fn next_meeting<L: Ledger>(
-    kept: &Kept,
-    rect: &Rect,
-    from: usize,
-    steps: &mut Steps<L>,
-) -> Option<(Payload, usize)>
-    ensures found { MatchOption result (met rect.now kept.now from ≡ []) (λ r. met rect.now kept.now from ≡ r.0 ∷ met rect.now kept.now r.1) }
-    ensures steps { steps.new ≤ steps.old + nodes_meeting (levels_of kept.now.tree) rect.now from }
+fn next_meeting(kept: &Kept, rect: &Rect, from: usize) -> Option<(Payload, usize)>
+    ensures { MatchOption result (met rect.now kept.now from ≡ []) (λ r. met rect.now kept.now from ≡ r.0 ∷ met rect.now kept.now r.1) }
 {
-    let Some(leaf) = kept.tree().next_leaf(rect, from, steps) else {
+    let Some(leaf) = leaf_meeting(kept.tree(), rect, from) else {
         return None;
     };
     let Some(span) = block_at(kept.blocks(), leaf) else {
         return None;
     };
     Some((span, leaf + 1))
+}
+
+/// The first leaf from this one on whose box the rectangle meets. Blocks are counted here, and no nodes.
+fn leaf_meeting(tree: &Tree, rect: &Rect, from: usize) -> Option<usize>
+    ensures { result ≡ first_meeting tree.now rect.now from }
+{
+    leaf_counted::<Brand>(tree, rect, from, Blank::new(1))
+}
+
+/// The same with a counter of nodes, which is dropped.
+fn leaf_counted<L: Ledger>(tree: &Tree, rect: &Rect, from: usize, blank: Blank) -> Option<usize>
+    requires name { blank.name ≡ L.name }
+    requires parts { blank.parts ≡ L.parts }
+    requires some { 0 < blank.parts }
+    ensures { result ≡ first_meeting tree.now rect.now from }
+{
+    let mut nodes = Steps::<L>::new(blank);
+    tree.next_leaf(rect, from, &mut nodes)
 }
 
 /// Where the block of an index stands, if there is one.

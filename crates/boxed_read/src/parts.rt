@@ -1,6 +1,8 @@
 //! The parts of a record: what classes read their records of.
 
 ghost use Rattle.std.specs.Prelude.{◌≡◌, ◌≤ℤ◌, ◌+ℤ◌, pos, true, ℕ, List, Ok, map, IfOk, IsUtf8};
+ghost use Rattle.live_model.specs.Maps.{meets};
+ghost use Rattle.live_model.specs.Points.{overlaps};
 ghost use Rattle.obf_wire.specs.Windows.{range_of};
 ghost use Rattle.coord_delta.specs.Steps.{places};
 ghost use Rattle.file_grammar.specs.declared.parts.Part.TheVariants.{Texts};
@@ -10,10 +12,11 @@ ghost use Rattle.file_grammar.specs.Messages.{Fields};
 ghost use Rattle.file_grammar.specs.Readings.{message_at, numbers_at};
 ghost use Rattle.file_grammar.specs.RecordRules.{only_point};
 ghost use Rattle.file_grammar.specs.Sections.{object_of, text_of, texts_in};
+ghost use Rattle.boxed_read.specs.Bounds.{bounds_of, widened};
 ghost use Rattle.boxed_read.specs.Sound.{Amid, HoldsSteps};
 
 use boxed_exact::{Step, next_step, text_of};
-use live_model::{ObjId, Point};
+use live_model::{ObjId, Point, Rect};
 use obf_wire::Window;
 use owned_data::Mem;
 use std::alloc::Global;
@@ -70,6 +73,53 @@ pub fn one_point(window: Window<'_>) -> Point
         Some(step) => point_after(corner, step),
         None => corner,
     }
+}
+
+/// Whether the box of the points to which the steps in a window lead meets a rectangle, edges included.
+pub fn meets(window: Window<'_>, rect: &Rect) -> bool
+    requires { HoldsSteps (pos 0, pos 0) (range_of window) }
+    ensures { (numbers : List ℕ) → numbers_at (range_of window.entry) ≡ Ok numbers → result ≡ meets rect.now (map point_from (places numbers)) }
+{
+    match bounds(window) {
+        Some(bounds) => overlaps(&bounds, rect),
+        None => false,
+    }
+}
+
+/// The smallest rectangle around the points to which the steps in a window lead; `None` where there is none.
+fn bounds(window: Window<'_>) -> Option<Rect>
+    requires { HoldsSteps (pos 0, pos 0) (range_of window) }
+    ensures { (numbers : List ℕ) → numbers_at (range_of window.entry) ≡ Ok numbers → result ≡ bounds_of (map point_from (places numbers)) }
+{
+    let mut point = Point { x: 0, y: 0 };
+    let mut bounds = None;
+    let mut at = window.from();
+    while let Some(step) = next_step(window, at) {
+        point = point_after(point, step);
+        bounds = Some(widened(bounds, &point));
+        at = step.next;
+    }
+    bounds
+}
+
+/// The smallest rectangle around some points, if there are any, and one more.
+fn widened(bounds: Option<Rect>, point: &Point) -> Rect
+    ensures { result ≡ widened bounds point.now }
+{
+    match bounds {
+        Some(bounds) => bounds.with_point(point),
+        None => Rect::of_point(point),
+    }
+}
+
+/// Whether no edge of the one lies beyond the opposite edge of the other.
+pub fn overlaps(one: &Rect, other: &Rect) -> bool
+    ensures { result ≡ overlaps one.now other.now }
+{
+    one.left <= other.right
+        && other.left <= one.right
+        && one.top <= other.bottom
+        && other.top <= one.bottom
 }
 
 /// The point that a step leads to, which is on the grid.

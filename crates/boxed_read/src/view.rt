@@ -6,6 +6,7 @@ ghost use Rattle.boxed_read.specs.Records.{record_at};
 ghost use Rattle.boxed_read.specs.Sound.{IsSoundRecord};
 
 use crate::class::ReadClass;
+use crate::filter::SpatialFilter;
 use crate::parts::object;
 use live_model::ObjId;
 use obf_wire::Window;
@@ -67,5 +68,12 @@ impl<'a, C: ReadClass> View<'a, C> {
         ensures { IfOk result (λ item. item ≡ self.now) }
     {
         C::read(alloc, self.window, self.ordinal, self.texts, self.group)
+    }
+
+    /// Whether the record passes a filter.
+    pub fn passes<F: SpatialFilter<C>>(&self, filter: &F) -> bool
+        ensures { result ≡ F.passing filter.now self.now }
+    {
+        filter.passes(self.window, self.ordinal, self.texts)
     }
 }

@@ -2,6 +2,7 @@ pub mod Blocks
 pub mod EntryFacts
 pub mod Fields
 pub mod MapReading
+pub mod MapNear
 pub mod MapOrder
 pub mod MapLawful
 pub mod Packed

@@ -7,7 +7,7 @@
 //!
 //! The layer above may rely on this: `write` appends exactly the packed bytes, or nothing; `MapClass` is checked by `boxed_check`, which
 //! answers exactly whether the form is good and every rule holds, or the first break, and read by `boxed_read`, which gives exactly the
-//! records; and what is packed is of good form, breaks no rule, and is read as the same records.
+//! records, and under `Shown` exactly those that are shown in a rectangle at a zoom; and what is packed is of good form, breaks no rule, and is read as the same records.
 #![tactic(auto)]
 
 mod checking;
@@ -16,6 +16,7 @@ mod entries;
 mod laws;
 mod reading;
 mod record_rules;
+mod shown;
 mod writing;
 
 pub use class::MapClass;
@@ -24,4 +25,5 @@ pub use laws::{
     packing_keeps_each_record, sound_sections_fit,
 };
 pub use record_rules::Key;
+pub use shown::Shown;
 pub use writing::write;

@@ -1,5 +1,5 @@
 -- A file that breaks no rule, and what its parts then are.
-use Rattle.std.proofs.Common.{◌≡◌, ◌≢◌, ◌<◌, ◌≤◌, length, get_or, ◌/◌, ◌%◌, ◌^◌, ◌*◌, ◌+◌, ◌-◌, ℕ, zero, suc, Bool, true, false, List, [], ◌∷◌, ◌++◌, map, Option, Some, None, Ok, refl, sym, ap, subst, ◌∙◌, inl, inr, arith}
+use Rattle.std.proofs.Common.{◌≡◌, ◌≢◌, ◌<◌, ◌≤◌, length, get_or, ◌/◌, ◌%◌, ◌^◌, ◌*◌, ◌+◌, ◌-◌, ℕ, zero, suc, Bool, true, false, List, [], ◌∷◌, ◌++◌, map, Option, Some, None, Result, Ok, refl, sym, ap, subst, ◌∙◌, inl, inr, arith}
 use Rattle.std.specs.Prelude.{ℤ, pos, negsuc, ◌&&◌, bytes_eq, if◌then◌else◌, unsigned_abs, is_some, nat_le, unwrap_or, slice_get, MatchOption}
 use Rattle.std.specs.List.{list_all}
 use Rattle.std.specs.Option.{option_and_then}
@@ -13,26 +13,31 @@ use Rattle.file_grammar.specs.BoxRules.{is_ordinal}
 use Rattle.file_grammar.specs.Facts.{AllHold, first_failing}
 use Rattle.file_grammar.specs.Files.{FileParts, beside, break_in_file, facts_in, file_break, file_facts, file_in, file_records, is_head, rise_strictly, rules_in, section_records, version_of, whole}
 use Rattle.file_grammar.specs.declared.parts.Version.{Version}
-use Rattle.file_grammar.specs.declared.parts.Part.TheVariants.{Boxes, File, Routing}
+use Rattle.file_grammar.specs.declared.parts.Part.TheVariants.{Boxes, File, Pois, Routing}
 use Rattle.file_grammar.specs.Messages.{Fields, IsMessage}
-use Rattle.file_grammar.specs.Listed.{block_records}
 use Rattle.file_grammar.specs.Readings.{IsInMemory, message_at}
 use Rattle.file_grammar.specs.RoadRules.{ban_boxing, ban_read, road_boxing, road_read, routing_in}
 use Rattle.file_grammar.specs.MapRules.{map_boxing}
+use Rattle.file_grammar.specs.PoiRules.{groups_in}
 use Rattle.file_grammar.specs.Sections.{section_in}
 use Rattle.file_grammar.proofs.ReadIsSpelled.{read_is_spelled}
 use Rattle.live_model.specs.declared.records.BanRec.{BanRec}
+use Rattle.live_model.specs.declared.records.MapRec.{MapRec}
 use Rattle.live_model.specs.declared.records.Rec.{Rec}
 use Rattle.live_model.specs.declared.records.RoadRec.{RoadRec}
 use Rattle.live_model.specs.Maps.{in_order, placed}
 use Rattle.live_model.specs.Records.{record_cmp}
 use Rattle.live_model.specs.Rules.{rule_lines, rules_text, spelled_rules}
 use Rattle.file_grammar.specs.declared.parts.Boxed.TheVariants.{Map as MapPart, Restriction, Road as RoadPart}
+use Rattle.obf_wire.specs.declared.file.FileBreak.{FileBreak}
+use Rattle.boxed_read.specs.Meeting.{InBoxes, in_boxes}
+use Rattle.boxed_read.specs.Records.{fields_read}
 use Rattle.boxed_read.specs.Sound.{IsChecked}
-use Rattle.poi_section.specs.PoiSections.{ArePoisChecked}
+use Rattle.map_section.specs.MapLawful.{map_reads}
+use Rattle.poi_section.specs.PoiSections.{ArePoisChecked, GroupRead, group_read}
 use Rattle.road_section.specs.Routing.{AreInside as AreRoutingInside, bans_window, roads_window, routing_message}
 use Rattle.addr_read.specs.Sound.{AreChecked as AreAddressesChecked}
-use Rattle.obf_reader.specs.Images.{IsImage, IsImageFile, Seen, addresses_window, map_window, pois_window, routing_window}
+use Rattle.obf_reader.specs.Images.{IsImage, IsImageFile, Seen, addresses_window, bans_of, groups_of, map_window, maps_of, pois_window, roads_of, routing_window}
 use Rattle.obf_reader.specs.Spread.{read_file}
 use Rattle.file_grammar.proofs.Earlier.{one_first_break_law}
 use Rattle.file_grammar.proofs.FileLaws.{read_of}
@@ -147,26 +152,32 @@ bans_checked image i = record { beside = beside i.holds.parts; few = few_rules i
 pub routing_inside : (image : Seen) → IsImage image → AreRoutingInside image.bytes image.kept.roads.spans
 routing_inside image i = i.holds.kept.roads.inside
 
--- the fields of the section of roads and restrictions are those that were kept
-same_routing : (image : Seen) (i : IsImage image) (fields : Fields) → message_at Routing (routing_window image) ≡ Ok fields
-    → routing_message image.kept.roads.spans i.holds.kept.roads.roads.fields i.holds.kept.roads.bans.fields i.holds.kept.roads.rest ≡ fields
-same_routing image i fields e = let both = sym i.holds.kept.roads.read ∙ e in cc
+-- what is so for the fields that are read is so for the fields that are there
+read_so : {X : Type 0} (of : Fields → X) (x : X) (r : Result Fields FileBreak) (fields : Fields) → r ≡ Ok fields → x ≡ of fields → x ≡ of (fields_read r)
+read_so of x r fields e is = is ∙ ap (λ (r : Result Fields FileBreak). of (fields_read r)) (sym e)
 
--- the roads of a part are those of the section
-pub roads_of_section : (image : Seen) (i : IsImage image) (roads : List (List RoadRec)) (fields : Fields)
-    → ((part : Fields) → message_at (Boxes RoadPart) (roads_window image.bytes image.kept.roads.spans) ≡ Ok part → roads ≡ map (block_records road_read) (section_in part).blocks)
-    → message_at Routing (routing_window image) ≡ Ok fields → roads ≡ map (block_records road_read) (routing_in fields).roads.blocks
-roads_of_section image i roads fields read e =
-    let k = i.holds.kept.roads in
-    read k.roads.fields k.roads.read ∙ ap (λ (fs : Fields). map (block_records road_read) (routing_in fs).roads.blocks) (same_routing image i fields e)
+-- each section of an image is read as it stands
+pub maps_read : (image : Seen) → IsImage image → (section : InBoxes MapRec) → ((fields : Fields) → message_at (Boxes MapPart) (map_window image) ≡ Ok fields → section ≡ in_boxes map_reads (section_in fields)) → section ≡ in_boxes map_reads (maps_of image)
+maps_read image i section read =
+    let k = i.holds.kept.map in
+    read_so (λ (fields : Fields). in_boxes map_reads (section_in fields)) section (message_at (Boxes MapPart) (map_window image)) k.fields k.read (read k.fields k.read)
 
--- and so are its restrictions
-pub bans_of_section : (image : Seen) (i : IsImage image) (bans : List (List BanRec)) (fields : Fields)
-    → ((part : Fields) → message_at (Boxes Restriction) (bans_window image.bytes image.kept.roads.spans) ≡ Ok part → bans ≡ map (block_records ban_read) (section_in part).blocks)
-    → message_at Routing (routing_window image) ≡ Ok fields → bans ≡ map (block_records ban_read) (routing_in fields).bans.blocks
-bans_of_section image i bans fields read e =
+pub groups_read : (image : Seen) → IsImage image → (groups : List GroupRead) → ((fields : Fields) → message_at Pois (pois_window image) ≡ Ok fields → groups ≡ map group_read (groups_in fields)) → groups ≡ map group_read (groups_of image)
+groups_read image i groups read =
+    let k = i.holds.kept.pois in
+    read_so (λ (fields : Fields). map group_read (groups_in fields)) groups (message_at Pois (pois_window image)) k.fields k.read (read k.fields k.read)
+
+pub roads_of_section : (image : Seen) → IsImage image → (section : InBoxes RoadRec) → ((part : Fields) → message_at (Boxes RoadPart) (roads_window image.bytes image.kept.roads.spans) ≡ Ok part → section ≡ in_boxes road_read (section_in part)) → section ≡ in_boxes road_read (roads_of image)
+roads_of_section image i section read =
     let k = i.holds.kept.roads in
-    read k.bans.fields k.bans.read ∙ ap (λ (fs : Fields). map (block_records ban_read) (routing_in fs).bans.blocks) (same_routing image i fields e)
+    read_so (λ (fields : Fields). in_boxes road_read (routing_in fields).roads) section (message_at Routing (routing_window image)) (routing_message image.kept.roads.spans k.roads.fields k.bans.fields k.rest) k.read
+    (read k.roads.fields k.roads.read)
+
+pub bans_of_section : (image : Seen) → IsImage image → (section : InBoxes BanRec) → ((part : Fields) → message_at (Boxes Restriction) (bans_window image.bytes image.kept.roads.spans) ≡ Ok part → section ≡ in_boxes ban_read (section_in part)) → section ≡ in_boxes ban_read (bans_of image)
+bans_of_section image i section read =
+    let k = i.holds.kept.roads in
+    read_so (λ (fields : Fields). in_boxes ban_read (routing_in fields).bans) section (message_at Routing (routing_window image)) (routing_message image.kept.roads.spans k.roads.fields k.bans.fields k.rest) k.read
+    (read k.bans.fields k.bans.read)
 
 pub some_rules : (r : Option (List Rule)) (rules : List Rule) → is_some r ≡ true → rules ≡ unwrap_or r [] → r ≡ Some rules
 some_rules (Some x) rules e f = ap (λ (rules : List Rule). Some rules) (sym f)

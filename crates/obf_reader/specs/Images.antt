@@ -7,10 +7,16 @@ use Rattle.live_model.specs.declared.records.Rec.{Rec}
 use Rattle.live_model.specs.declared.rules.Rule.{Rule}
 use Rattle.stamp_core.specs.declared.head.Head.{Head}
 use Rattle.obf_wire.specs.Fields.{Window}
+use Rattle.file_grammar.specs.declared.parts.Boxed.TheVariants.{Map}
+use Rattle.file_grammar.specs.declared.parts.Part.TheVariants.{Boxes, Pois, Routing}
 use Rattle.file_grammar.specs.declared.parts.Version.{Version}
 use Rattle.file_grammar.specs.BoxRules.{is_ordinal}
 use Rattle.file_grammar.specs.Files.{FileParts, IsFile, beside, file_break, file_in, head_numbers, rules_in, section_records, version_of}
 use Rattle.file_grammar.specs.Messages.{Fields}
+use Rattle.file_grammar.specs.PoiRules.{Group, groups_in}
+use Rattle.file_grammar.specs.RoadRules.{routing_in}
+use Rattle.file_grammar.specs.Sections.{Section, section_in}
+use Rattle.boxed_read.specs.Records.{fields_at}
 use Rattle.obf_reader.specs.declared.sections.KeptSections.{KeptSections}
 use Rattle.obf_reader.specs.declared.spans.Sections.{Sections}
 use Rattle.obf_reader.specs.Heads.{IsHeadOf}
@@ -42,6 +48,19 @@ pois_window image = window_of image.bytes image.sections.pois
 
 abbrev pub routing_window : Seen → Window
 routing_window image = window_of image.bytes image.sections.roads
+
+-- the sections of map records, of roads and of restrictions, and the groups of points of interest, as they are read
+abbrev pub maps_of : Seen → Section
+maps_of image = section_in (fields_at (Boxes Map) (map_window image))
+
+abbrev pub groups_of : Seen → List Group
+groups_of image = groups_in (fields_at Pois (pois_window image))
+
+abbrev pub roads_of : Seen → Section
+roads_of image = (routing_in (fields_at Routing (routing_window image))).roads
+
+abbrev pub bans_of : Seen → Section
+bans_of image = (routing_in (fields_at Routing (routing_window image))).bans
 
 -- ordinals of ids, rising strictly
 abbrev pub AreMarks : List ℕ → Type 0

@@ -10,20 +10,17 @@ ghost use Rattle.file_grammar.specs.Files.{file_break, whole};
 ghost use Rattle.file_grammar.specs.BoxRules.{is_ordinal};
 ghost use Rattle.file_grammar.specs.Readings.{IsInMemory};
 ghost use Rattle.boxed_exact.specs.Breaks.{Breaks};
-ghost use Rattle.file_grammar.specs.declared.parts.Boxed.TheVariants.{Map};
-ghost use Rattle.file_grammar.specs.declared.parts.Part.TheVariants.{Addresses as AddressesPart, Boxes, Pois as PoisPart, Routing};
+ghost use Rattle.file_grammar.specs.declared.parts.Part.TheVariants.{Addresses as AddressesPart};
 ghost use Rattle.file_grammar.specs.AddressRules.{address_records_in, addresses_of};
-ghost use Rattle.file_grammar.specs.PoiRules.{groups_in};
-ghost use Rattle.file_grammar.specs.RoadRules.{ban_read, road_read, routing_in};
-ghost use Rattle.file_grammar.specs.Listed.{block_records};
+ghost use Rattle.file_grammar.specs.RoadRules.{ban_read, road_read};
 ghost use Rattle.file_grammar.specs.Messages.{Fields};
 ghost use Rattle.file_grammar.specs.Readings.{message_at};
-ghost use Rattle.file_grammar.specs.Sections.{section_in};
 ghost use Rattle.map_section.specs.MapLawful.{map_reads};
-ghost use Rattle.poi_section.specs.PoiSections.{group_blocks};
+ghost use Rattle.poi_section.specs.PoiSections.{group_read};
+ghost use Rattle.boxed_read.specs.Meeting.{in_boxes};
 ghost use Rattle.boxed_read.specs.Steps.{joined};
 ghost use Rattle.addr_read.specs.Records.{address_blocks};
-ghost use Rattle.obf_reader.specs.Images.{IsImage, IsImageFile, IsImageOf, addresses_window, map_window, pois_window, routing_window};
+ghost use Rattle.obf_reader.specs.Images.{IsImage, IsImageFile, IsImageOf, addresses_window, bans_of, groups_of, maps_of, roads_of};
 ghost use Rattle.obf_reader.specs.Reads.{IsGoodRead};
 
 use crate::heads::head_of;
@@ -70,7 +67,7 @@ impl Model for Image {
 }
 
 impl Image {
-    /// Reads a map file, and keeps its bytes. `Broken` with the first break exactly where the bytes are none,
+    /// Reads a map file, and keeps its bytes. `Broken` with the first break exactly where the bytes are no map file,
     /// unless memory was refused before. A good file is read once.
     pub fn read(alloc: Global, bytes: Vec<u8>) -> Result<Image, FileError>
         ensures good { IfOk result (λ image. (file_break bytes.items ≡ None) × IsImageOf bytes.items image) }
@@ -164,10 +161,10 @@ impl Image {
         self.marks.len()
     }
 
-    /// The section of map records: the records of each block, in the order of the file.
-    #[tactic(auto, using(crate::proofs::Images::section_checked))]
+    /// The section of map records, in the order of the file.
+    #[tactic(auto, using(crate::proofs::Images::section_checked, crate::proofs::Images::maps_read))]
     pub fn map(&self) -> Section<'_, MapClass>
-        ensures { (fields : Fields) → message_at (Boxes Map) (map_window self.now) ≡ Ok fields → result ≡ map (block_records map_reads) (section_in fields).blocks }
+        ensures { result ≡ in_boxes map_reads (maps_of self.now) }
     {
         let window = Window::new(
             self.bytes.as_slice(),
@@ -185,9 +182,9 @@ impl Image {
     }
 
     /// The groups of points of interest: of each the records of each block, in the order of the file.
-    #[tactic(auto, using(crate::proofs::Images::pois_checked))]
+    #[tactic(auto, using(crate::proofs::Images::pois_checked, crate::proofs::Images::groups_read))]
     pub fn pois(&self) -> Pois<'_>
-        ensures { (fields : Fields) → message_at PoisPart (pois_window self.now) ≡ Ok fields → result ≡ map group_blocks (groups_in fields) }
+        ensures { result ≡ map group_read (groups_of self.now) }
     {
         let window = Window::new(
             self.bytes.as_slice(),
@@ -214,7 +211,7 @@ impl Image {
     /// The section of roads: the records of each block, in the order of the file.
     #[tactic(auto, using(crate::proofs::Images::roads_checked, crate::proofs::Images::routing_inside, crate::proofs::Images::roads_of_section))]
     pub fn roads(&self) -> Section<'_, RoadClass>
-        ensures { (fields : Fields) → message_at Routing (routing_window self.now) ≡ Ok fields → result ≡ map (block_records road_read) (routing_in fields).roads.blocks }
+        ensures { result ≡ in_boxes road_read (roads_of self.now) }
     {
         let kept = &self.kept.roads;
         let window = Window::new(
@@ -228,7 +225,7 @@ impl Image {
     /// The section of restrictions: the records of each block, in the order of the file.
     #[tactic(auto, using(crate::proofs::Images::bans_checked, crate::proofs::Images::routing_inside, crate::proofs::Images::bans_of_section))]
     pub fn restrictions(&self) -> Section<'_, BanClass>
-        ensures { (fields : Fields) → message_at Routing (routing_window self.now) ≡ Ok fields → result ≡ map (block_records ban_read) (routing_in fields).bans.blocks }
+        ensures { result ≡ in_boxes ban_read (bans_of self.now) }
     {
         let kept = &self.kept.roads;
         let window = Window::new(

@@ -17,12 +17,13 @@ use Rattle.file_grammar.specs.PoiRules.{Group, group_facts, groups_facts, groups
 use Rattle.file_grammar.specs.Readings.{message_at}
 use Rattle.file_grammar.specs.Sections.{Section}
 use Rattle.boxed_laws.proofs.FittingRecords.{Holds, all_before, all_behind}
-use Rattle.boxed_read.proofs.SectionRead.{section_read}
+use Rattle.boxed_read.specs.Meeting.{InBoxes}
+use Rattle.boxed_read.proofs.SectionRead.{section_boxed}
 use Rattle.poi_section.specs.declared.kept.GroupKept.{GroupKept}
 use Rattle.poi_section.specs.declared.kept.PoisKept.{PoisKept}
 use Rattle.poi_section.specs.Groups.{AreGroupsKept, IsGroupKept}
 use Rattle.poi_section.specs.PoiReading.{id_of, poi_is_read}
-use Rattle.poi_section.specs.PoiSections.{ArePoisChecked, HoldGroups, HoldsGroup, blocks_read, group_blocks}
+use Rattle.poi_section.specs.PoiSections.{ArePoisChecked, GroupRead, HoldGroups, HoldsGroup, category_in, group_kept, group_read}
 
 -- ---- a category is UTF-8
 
@@ -68,24 +69,25 @@ group_holds bytes [] index one all e = absurd cc
 group_holds bytes (k ∷ ks) zero one all e = let same : k ≡ one = cc in subst (HoldsGroup bytes) same all.0
 group_holds bytes (k ∷ ks) (suc index) one all e = group_holds bytes ks index one all.1 e
 
--- a group where it stands has these records
-one_read : (beside : Beside) (bytes : List ℕ) (kept : GroupKept) (group : Group) → length beside.rules ≤ 100000 → IsGroupKept beside bytes kept group → blocks_read bytes kept ≡ group_blocks group
+-- a group where it stands is read so
+one_read : (beside : Beside) (bytes : List ℕ) (kept : GroupKept) (group : Group) → length beside.rules ≤ 100000 → IsGroupKept beside bytes kept group → group_kept bytes kept ≡ group_read group
 one_read beside bytes kept group few k =
-    section_read Poi poi_boxing poi_read id_of poi_is_read (slice_range bytes kept.category.from kept.category.to) (part_of bytes kept.records.from kept.records.to) kept.kept k.section.fields
-    (record { beside = beside; few = few; is = k.section }) k.section.read
-    ∙ ap (λ (section : Section). group_blocks (record group { section = section; category = record group.category { value = slice_range bytes kept.category.from kept.category.to } })) k.is
-    ∙ ap (λ (text : List ℕ). group_blocks (record group { category = record group.category { value = text } })) k.category
+    ap (λ (section : InBoxes PoiRec). record { category = category_in bytes kept; section = section })
+    (section_boxed Poi poi_boxing poi_read id_of poi_is_read (category_in bytes kept) (part_of bytes kept.records.from kept.records.to) kept.kept k.section.fields
+        (record { beside = beside; few = few; is = k.section }) k.section.read)
+    ∙ ap (λ (section : Section). group_read (record group { section = section; category = record group.category { value = category_in bytes kept } })) k.is
+    ∙ ap (λ (text : List ℕ). group_read (record group { category = record group.category { value = text } })) k.category
 
-groups_read : (beside : Beside) (bytes : List ℕ) (kept : List GroupKept) (groups : List Group) → length beside.rules ≤ 100000 → AreGroupsKept beside bytes kept groups → map (blocks_read bytes) kept ≡ map group_blocks groups
+groups_read : (beside : Beside) (bytes : List ℕ) (kept : List GroupKept) (groups : List Group) → length beside.rules ≤ 100000 → AreGroupsKept beside bytes kept groups → map (group_kept bytes) kept ≡ map group_read groups
 groups_read beside bytes [] [] few are = refl
 groups_read beside bytes [] (g ∷ gs) few are = absurd are
 groups_read beside bytes (k ∷ ks) [] few are = absurd are
 groups_read beside bytes (k ∷ ks) (g ∷ gs) few are =
-    ap (λ (blocks : List (List PoiRec)). blocks ∷ map (blocks_read bytes) ks) (one_read beside bytes k g few are.0)
-    ∙ ap (λ (rest : List (List (List PoiRec))). group_blocks g ∷ rest) (groups_read beside bytes ks gs few are.1)
+    ap (λ (one : GroupRead). one ∷ map (group_kept bytes) ks) (one_read beside bytes k g few are.0)
+    ∙ ap (λ (rest : List GroupRead). group_read g ∷ rest) (groups_read beside bytes ks gs few are.1)
 
 -- what was kept of groups is where their records stand
-pub pois_read : (w : Window) (kept : PoisKept) (fields : Fields) → ArePoisChecked w kept → message_at Pois w ≡ Ok fields → map (blocks_read w.bytes) kept.groups.items ≡ map group_blocks (groups_in fields)
+pub pois_read : (w : Window) (kept : PoisKept) (fields : Fields) → ArePoisChecked w kept → message_at Pois w ≡ Ok fields → map (group_kept w.bytes) kept.groups.items ≡ map group_read (groups_in fields)
 pois_read w kept fields h e =
     let same : h.are.fields ≡ fields = let both = sym h.are.read ∙ e in cc in
-    groups_read h.beside w.bytes kept.groups.items (groups_in h.are.fields) h.few h.are.groups ∙ ap (λ (fs : Fields). map group_blocks (groups_in fs)) same
+    groups_read h.beside w.bytes kept.groups.items (groups_in h.are.fields) h.few h.are.groups ∙ ap (λ (fs : Fields). map group_read (groups_in fs)) same

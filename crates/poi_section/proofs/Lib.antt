@@ -7,4 +7,5 @@ pub mod RecordFacts
 pub mod PoiRead
 pub mod PackedPois
 pub mod PackedGroups
+pub mod CategoryWalk
 pub mod GroupRead

@@ -1,8 +1,10 @@
+pub mod CategoryHits
 pub mod EntryFacts
 pub mod Fields
 pub mod Groups
 pub mod Laws
 pub mod Packed
+pub mod PoiNear
 pub mod PoiOrder
 pub mod PoiLawful
 pub mod PoiReads

@@ -6,10 +6,12 @@
 //!
 //! The layer above may rely on this: `write` appends exactly the packed bytes, or nothing; `PoiClass` checks each rule of a record
 //! exactly; `check` finds the first break of a whole section exactly, and where it finds none, what it keeps of the groups is so;
-//! and what is packed of records that fit is good, and read as the same records.
+//! what is packed of records that fit is good, and read as the same records; and `Pois::category` gives exactly the records of a category
+//! in a rectangle.
 #![tactic(auto)]
 
 mod categories;
+mod category_cursor;
 mod checked;
 mod checking;
 mod class;
@@ -18,11 +20,13 @@ mod group_rules;
 mod kept;
 mod laws;
 mod one_pass;
+mod placed;
 mod reading;
 mod record_rules;
 mod sections;
 mod writing;
 
+pub use category_cursor::CategoryCursor;
 pub use checked::check;
 pub use class::PoiClass;
 pub use kept::{GroupKept, PoisKept};
@@ -31,5 +35,6 @@ pub use laws::{
     packed_pois_are_good, sound_categories_fit, sound_pois_fit,
 };
 pub use one_pass::see_groups;
+pub use placed::PlacedIn;
 pub use sections::Pois;
 pub use writing::write;

@@ -1,22 +1,26 @@
 //! Groups of points of interest that were checked, to be read.
 
-ghost use Rattle.std.specs.Prelude.{◌≡◌, ◌≤◌, List, Ok, length, map, slice_get, slice_range, None, Some, IsUtf8, MatchOption};
+ghost use Rattle.std.specs.Prelude.{◌≡◌, ◌≤◌, List, Ok, length, map, slice_get, None, Some, IsUtf8, MatchOption};
+ghost use Rattle.std.specs.Option.{option_map};
 ghost use Rattle.obf_wire.specs.Windows.{range_of};
 ghost use Rattle.file_grammar.specs.declared.parts.Part.TheVariants.{Pois as PoisPart};
 ghost use Rattle.file_grammar.specs.Messages.{Fields};
 ghost use Rattle.file_grammar.specs.PoiRules.{groups_in};
 ghost use Rattle.file_grammar.specs.Readings.{message_at};
-ghost use Rattle.poi_section.specs.PoiSections.{ArePoisChecked, HoldsGroup, blocks_read, group_blocks};
+ghost use Rattle.poi_section.specs.CategoryHits.{category_hits};
+ghost use Rattle.poi_section.specs.PoiSections.{ArePoisChecked, HoldsGroup, category_in, group_read, section_kept};
 
+use crate::category_cursor::CategoryCursor;
 use crate::class::PoiClass;
 use crate::kept::{GroupKept, PoisKept};
 use boxed_read::Section;
+use live_model::Rect;
 use obf_wire::Window;
 use std::marker::Model;
 use std::str::from_utf8;
 
-/// Groups of which every rule holds, seen as the records of each, block by block, in the order of the file. It borrows the
-/// bytes and what the check left of them.
+/// Groups of which every rule holds, seen as the category and the records of each, in the order of the file. It borrows the bytes and what the check
+/// left of them.
 #[derive(Drop)]
 pub struct Pois<'a> {
     window: Window<'a>,
@@ -25,13 +29,12 @@ pub struct Pois<'a> {
 
 impl<'a> Model for Pois<'a> {
     ghost use Rattle.std.specs.Prelude.{List, map};
-    ghost use Rattle.live_model.specs.declared.records.PoiRec.{PoiRec};
     ghost use Rattle.obf_wire.specs.Windows.{range_of};
-    ghost use Rattle.poi_section.specs.PoiSections.{ArePoisChecked, blocks_read};
+    ghost use Rattle.poi_section.specs.PoiSections.{ArePoisChecked, GroupRead, group_kept};
 
-    ghost Value = { List (List (List PoiRec)) };
+    ghost Value = { List GroupRead };
 
-    ghost view = { λ p. map (blocks_read p.window.bytes.now) p.kept.now.groups.items };
+    ghost view = { λ p. map (group_kept p.window.bytes.now) p.kept.now.groups.items };
 
     ghost invariant = { λ p. ArePoisChecked (range_of p.window) p.kept.now };
 }
@@ -40,7 +43,7 @@ impl<'a> Pois<'a> {
     /// The groups in a window of which a check left this.
     pub fn new(window: Window<'a>, kept: &'a PoisKept) -> Pois<'a>
         requires { ArePoisChecked (range_of window) kept.now }
-        ensures { (fields : Fields) → message_at PoisPart (range_of window.entry) ≡ Ok fields → result ≡ map group_blocks (groups_in fields) }
+        ensures { (fields : Fields) → message_at PoisPart (range_of window.entry) ≡ Ok fields → result ≡ map group_read (groups_in fields) }
     {
         Pois { window, kept }
     }
@@ -54,12 +57,19 @@ impl<'a> Pois<'a> {
 
     /// The section of the group at an index; `None` exactly where there is none.
     pub fn group(&self, index: usize) -> Option<Section<'a, PoiClass>>
-        ensures { MatchOption result (slice_get self.now index ≡ None) (λ section. slice_get self.now index ≡ Some section) }
+        ensures { MatchOption result (slice_get self.now index ≡ None) (λ section. option_map (λ g. g.section) (slice_get self.now index) ≡ Some section) }
     {
         match group_at(self.kept.groups(), index) {
             Some(group) => Some(section_of(self.window, group)),
             None => None,
         }
+    }
+
+    /// The points of interest of a category in a rectangle, edges included, in the order of the file. A file may have more than one group of a category.
+    pub fn category(&self, category: &'a str, rect: Rect) -> CategoryCursor<'a>
+        ensures { result ≡ category_hits category.entry.now rect self.now }
+    {
+        CategoryCursor::new(self.window, self.kept.groups(), category, rect)
     }
 }
 
@@ -71,18 +81,18 @@ fn group_at(groups: &[GroupKept], index: usize) -> Option<&GroupKept>
 }
 
 /// The section of a group.
-fn section_of<'a>(window: Window<'a>, group: &'a GroupKept) -> Section<'a, PoiClass>
+pub(crate) fn section_of<'a>(window: Window<'a>, group: &'a GroupKept) -> Section<'a, PoiClass>
     requires { HoldsGroup window.bytes.now group.now }
-    ensures { result ≡ blocks_read window.entry.bytes.now group.entry.now }
+    ensures { result ≡ section_kept window.entry.bytes.now group.entry.now }
 {
     let records = window.part(group.records.from, group.records.to);
     Section::of_group(records, &group.kept, category_of(window, group))
 }
 
 /// The category of a group.
-fn category_of<'a>(window: Window<'a>, group: &GroupKept) -> &'a str
+pub(crate) fn category_of<'a>(window: Window<'a>, group: &GroupKept) -> &'a str
     requires { HoldsGroup window.bytes.now group.now }
-    ensures { result.now ≡ slice_range window.entry.bytes.now group.now.category.from group.now.category.to }
+    ensures { result.now ≡ category_in window.entry.bytes.now group.now }
 {
     from_utf8(&window.all()[group.category.from..group.category.to]).unwrap()
 }

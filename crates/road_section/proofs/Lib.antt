@@ -7,3 +7,4 @@ pub mod StraightLines
 pub mod Parts
 pub mod PackedSection
 pub mod StopRead
+pub mod SegmentWalk

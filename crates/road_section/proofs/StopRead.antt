@@ -18,7 +18,7 @@ use Rattle.road_section.specs.Stops.{AreFew, LeadsOn, behind, is_numbered, is_pl
 use Rattle.road_section.proofs.StopWalk.{at_place, none_behind}
 
 -- the node of three numbers is that of the step that they are
-step_is : (from : Stop) (w : Window) (numbers : List ℕ) (triple : Triple) (s : LeadsOn w numbers triple) → next_stop from s.n s.x s.y ≡ stop_behind from triple
+pub step_is : (from : Stop) (w : Window) (numbers : List ℕ) (triple : Triple) (s : LeadsOn w numbers triple) → next_stop from s.n s.x s.y ≡ stop_behind from triple
 step_is from w numbers triple s =
     ap (λ (z : ℤ). record { number = from.number +ℤ z; location = moved from.location (unzigzag s.x) (unzigzag s.y) }) (sym s.number)
     ∙ ap (λ (z : ℤ). record { number = from.number +ℤ triple.number; location = moved from.location z (unzigzag s.y) }) (sym s.east)

@@ -10,3 +10,5 @@ pub mod SeenFacts
 pub mod Stops
 pub mod Straight
 pub mod Readings
+pub mod RoadNear
+pub mod Segments

@@ -109,7 +109,7 @@ fn read_nodes(alloc: Global, window: Window<'_>) -> Mem<Vec<RoadNode>>
 }
 
 /// The node that a step leads to.
-fn node_after(from: RoadNode, triple: Triple) -> RoadNode
+pub(crate) fn node_after(from: RoadNode, triple: Triple) -> RoadNode
     requires number { is_object_number (from.id +ℤ triple.number) ≡ true }
     requires location { is_on_grid (pos from.point.x +ℤ triple.step.east, pos from.point.y +ℤ triple.step.south) ≡ true }
     ensures id { result.id ≡ from.id +ℤ triple.number }

@@ -1,0 +1,2 @@
+pub mod HitRows
+pub mod RowLaws
