@@ -144,7 +144,7 @@ module _ (rules : List Rule) (category : List ℕ) (rect : Rect) where
       let split = filter-append gives (group_records group) (flat_map group_records groups) in
       elim (cases_Bool (is_of group)) [
         | inl same ↦ rw same
-              (ap (λ (rs : List PoiRec). rs ++ (category_hits category rect (map group_read groups)).records) (all_given group same) ∙ ap (λ (rs : List PoiRec). filter gives (group_records group) ++ rs) rest ∙ sym split)
+            (ap (λ (rs : List PoiRec). rs ++ (category_hits category rect (map group_read groups)).records) (all_given group same) ∙ ap (λ (rs : List PoiRec). filter gives (group_records group) ++ rs) rest ∙ sym split)
         | inr other ↦ rw other (rest ∙ sym (split ∙ ap (λ (rs : List PoiRec). rs ++ filter gives (flat_map group_records groups)) (none_given group other)))
       ]
 

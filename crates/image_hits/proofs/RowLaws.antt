@@ -45,6 +45,6 @@ records_of_image image i =
     let pois = there (message_at Pois (pois_window image)) p.pois i.sections.pois in
     let roads = there (message_at Routing (routing_window image)) p.roads i.sections.roads in
     let made : Fields → Fields → Fields → List Rec = λ m g r.
-        map Map (map_records_in (section_in m)) ++ map Addr (address_records_in (addresses_of p.addresses)) ++ map Poi (poi_records_in g) ++ map Road (roads_in (routing_in r).roads) ++ map Ban (bans_in (routing_in r).bans) in
+    map Map (map_records_in (section_in m)) ++ map Addr (address_records_in (addresses_of p.addresses)) ++ map Poi (poi_records_in g) ++ map Road (roads_in (routing_in r).roads) ++ map Ban (bans_in (routing_in r).bans) in
     ap (λ (m : Fields). made m p.pois p.roads) maps ∙ ap (λ (g : Fields). made (fields_read (message_at (Boxes MapPart) (map_window image))) g p.roads) pois
     ∙ ap (made (fields_read (message_at (Boxes MapPart) (map_window image))) (fields_read (message_at Pois (pois_window image)))) roads

@@ -25,7 +25,7 @@ pub type BanHits<'a> = HitCursor<'a, BanClass, Near>;
 /// The map records that are shown in a rectangle at a zoom, edges included.
 #[tactic(auto, using(crate::proofs::HitRows::maps_hit))]
 pub fn map_hits<'a>(image: &'a Image, rect: Rect, zoom: u8) -> MapHits<'a>
-    ensures { result ≡ map_hits image.now rect zoom }
+    ensures { result ≡ map_hits image.entry.now rect zoom }
 {
     image.map().hits(Shown {
         rules: image.rules(),
@@ -37,7 +37,7 @@ pub fn map_hits<'a>(image: &'a Image, rect: Rect, zoom: u8) -> MapHits<'a>
 /// The points of interest of a category in a rectangle, edges included.
 #[tactic(auto, using(crate::proofs::HitRows::pois_hit))]
 pub fn poi_hits<'a>(image: &'a Image, category: &'a str, rect: Rect) -> PoiHits<'a>
-    ensures { result ≡ poi_hits image.now category.now rect }
+    ensures { result ≡ poi_hits image.entry.now category.entry.now rect }
 {
     image.pois().category(category, rect)
 }
@@ -45,7 +45,7 @@ pub fn poi_hits<'a>(image: &'a Image, category: &'a str, rect: Rect) -> PoiHits<
 /// The roads with a segment whose box meets a rectangle, edges included.
 #[tactic(auto, using(crate::proofs::HitRows::roads_hit))]
 pub fn road_hits<'a>(image: &'a Image, rect: Rect) -> RoadHits<'a>
-    ensures { result ≡ road_hits image.now rect }
+    ensures { result ≡ road_hits image.entry.now rect }
 {
     image.roads().hits(Near { rect })
 }
@@ -53,7 +53,7 @@ pub fn road_hits<'a>(image: &'a Image, rect: Rect) -> RoadHits<'a>
 /// The turn restrictions whose point is in a rectangle, edges included.
 #[tactic(auto, using(crate::proofs::HitRows::bans_hit))]
 pub fn ban_hits<'a>(image: &'a Image, rect: Rect) -> BanHits<'a>
-    ensures { result ≡ ban_hits image.now rect }
+    ensures { result ≡ ban_hits image.entry.now rect }
 {
     image.restrictions().hits(Near { rect })
 }

@@ -10,7 +10,5 @@
 mod hits;
 mod laws;
 
-pub use hits::{
-    BanHits, MapHits, PoiHits, RoadHits, ban_hits, map_hits, poi_hits, road_hits,
-};
+pub use hits::{BanHits, MapHits, PoiHits, RoadHits, ban_hits, map_hits, poi_hits, road_hits};
 pub use laws::{image_records_are_of_the_file, records_without_rows_do_not_matter};

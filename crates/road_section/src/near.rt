@@ -47,10 +47,7 @@ impl SpatialFilter<RoadClass> for Near {
             → result ≡ passes_by self.now.rect (road_reading group (only_texts (texts_in named)) (only_fields ordinal fields)) }
     {
         let fields = read_road(window);
-        meets_segment(
-            window.part(fields.nodes.from, fields.nodes.to),
-            &self.rect,
-        )
+        meets_segment(window.part(fields.nodes.from, fields.nodes.to), &self.rect)
     }
 
     ghost near = { λ it. road_near it.rect };
@@ -105,10 +102,7 @@ fn touches(rect: &Rect, before: Option<RoadNode>, node: &RoadNode) -> bool
     ensures { result ≡ touches rect.now before node.now }
 {
     match before {
-        Some(before) => overlaps(
-            &Rect::of_point(&before.point).with_point(&node.point),
-            rect,
-        ),
+        Some(before) => overlaps(&Rect::of_point(&before.point).with_point(&node.point), rect),
         None => false,
     }
 }
