@@ -1,5 +1,5 @@
 -- The blocks that are due are those that a search over the entries finds.
-use Rattle.std.proofs.Common.{◌≡◌, ◌+◌, ◌-◌, ℕ, suc, Bool, true, false, cond, ◌&&◌, not, List, [], ◌∷◌, length, take, drop, Option, Some, refl, sym, ap, arith, ◌∙◌}
+use Rattle.std.proofs.Common.{◌≡◌, ◌+◌, ◌-◌, ℕ, suc, Bool, true, false, cond, ◌&&◌, not, List, [], ◌∷◌, take, drop, Option, Some, refl, sym, ap, arith, ◌∙◌}
 use Rattle.std.specs.List.{AllByRecursion, prefix_len}
 use Rattle.ordered_lists.proofs.PutAll.{all_map}
 use Rattle.name_fold.specs.Keys.{key}

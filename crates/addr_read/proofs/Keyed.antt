@@ -1,13 +1,12 @@
 -- Blocks whose addresses rise by their keys: what a key finds stands in the blocks that are due.
-use Rattle.std.proofs.Common.{◌≡◌, ◌==◌, ℕ, Bool, true, false, cond, ◌&&◌, not, List, [], ◌∷◌, ◌++◌, map, Option, Some, None, refl, sym, ap, subst, ◌∙◌}
-use Rattle.std.specs.Prelude.{bytes_eq, filter, flat_map}
+use Rattle.std.proofs.Common.{◌≡◌, ℕ, Bool, true, false, cond, ◌&&◌, not, List, [], ◌∷◌, ◌++◌, map, Option, Some, refl, sym, ap, subst, ◌∙◌}
+use Rattle.std.specs.Prelude.{bytes_eq, filter}
 use Rattle.std.specs.List.{AllByRecursion}
-use Rattle.std.specs.Ordering.{is_gt}
 use Rattle.std.specs.declared.cmp.Ordering.{Ordering}
 use Rattle.std.proofs.lemmas.Bool.{and_parts}
 use Rattle.std.proofs.lemmas.List.Elements.{filter-append}
 use Rattle.std.proofs.lemmas.Slice.Eq.{bytes_eq-Decides}
-use Rattle.ordered_lists.proofs.PutAll.{all_map, filter_no}
+use Rattle.ordered_lists.proofs.PutAll.{filter_no}
 use Rattle.ordered_lists.proofs.StableSort.{AreUp}
 use Rattle.name_fold.specs.Keys.{key}
 use Rattle.live_model.specs.declared.addresses.AddrKind.{AddrKind}
@@ -19,9 +18,9 @@ use Rattle.file_grammar.specs.AddressRules.{first_of, last_of}
 use Rattle.boxed_laws.proofs.FittingRecords.{all_before, all_behind}
 use Rattle.boxed_read.specs.Steps.{joined}
 use Rattle.addr_section.specs.declared.kept.EntryKept.{EntryKept}
-use Rattle.addr_read.specs.Finding.{due_blocks, has_prefix, has_street, is_below, is_listed, is_reached, is_wanted, may_hold}
+use Rattle.addr_read.specs.Finding.{due_blocks, is_listed, is_reached, is_wanted, may_hold}
 use Rattle.addr_read.specs.Searching.{AreRising, IsAhead, IsAtMost, text_in}
-use Rattle.addr_read.proofs.Due.{AreEnds, IsEnds}
+use Rattle.addr_read.proofs.Due.{AreEnds}
 use Rattle.addr_read.proofs.TextOrder.{at_most_itself, at_most_through, begins, front_at_most, not_below, reached_begun, reached_front, reached_itself}
 
 -- the order of addresses by the keys of their names

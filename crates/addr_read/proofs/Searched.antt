@@ -16,7 +16,6 @@ use Rattle.live_model.specs.declared.addresses.AddrRec.{AddrRec}
 use Rattle.live_model.specs.Maps.{is_house}
 use Rattle.live_model.specs.Records.{is_empty}
 use Rattle.text_table.specs.Tables.{text_cmp}
-use Rattle.obf_wire.specs.Fields.{part_of}
 use Rattle.file_grammar.specs.declared.parts.Version.{Version}
 use Rattle.file_grammar.specs.AddressRules.{Address, KeyEntry, KeyedBlock, KeyedList, address_facts, address_record_of, addresses_in, addresses_rise, entry_facts, entry_pairs, first_at, first_of, has_key, is_kind_in, key_facts, keyed_block_fact, keyed_facts, kind_from, last_of}
 use Rattle.file_grammar.specs.BoxRules.{Beside, is_ordinal}
@@ -28,13 +27,12 @@ use Rattle.boxed_read.specs.Steps.{joined}
 use Rattle.addr_section.specs.declared.kept.EntryKept.{EntryKept}
 use Rattle.addr_section.specs.declared.kept.ListKept.{ListKept}
 use Rattle.addr_section.specs.Asked.{all_facts}
-use Rattle.addr_section.specs.Kept.{AreBlocksKept, AreEntriesKept, IsListKept, IsTextAt}
-use Rattle.addr_read.specs.Finding.{is_listed}
+use Rattle.addr_section.specs.Kept.{AreEntriesKept, IsListKept, IsTextAt}
 use Rattle.addr_read.specs.Records.{records_of}
 use Rattle.addr_read.specs.Searching.{AreRising, IsAtMost, text_in}
 use Rattle.addr_read.proofs.AddressRead.{key_found}
 use Rattle.addr_read.proofs.Due.{AreEnds, IsEnds}
-use Rattle.addr_read.proofs.Keyed.{AreOf, IsKeyedBlock, blocks_keyed, by_key, listed_of, rising_is, some_last}
+use Rattle.addr_read.proofs.Keyed.{AreOf, IsKeyedBlock, blocks_keyed, by_key, listed_of, rising_is}
 use Rattle.addr_read.proofs.SectionRead.{list_joined, spans_read}
 use Rattle.addr_read.proofs.TextOrder.{at_most_through}
 
@@ -87,6 +85,7 @@ rise houses x y kx ky e = one (or_cases (all_rise x y) (not (is_utf8 x.key.value
   where
     both : (is_utf8 x.key.value && is_utf8 y.key.value) ≡ true
     both = rw kx.utf8 ky.utf8
+
     one : (all_rise x y ≡ true) ⊎ (not (is_utf8 x.key.value && is_utf8 y.key.value) ≡ true) → IsAtMost (key x.name.value) (key y.name.value)
     one (inl up) = subst (λ (k : List ℕ). IsAtMost k (key y.name.value)) kx.key_is (subst (λ (k : List ℕ). IsAtMost x.key.value k) ky.key_is (lt_up (text_cmp x.key.value y.key.value) (numbers_rise x y) up))
     one (inr bad) = absurd (let f : not true ≡ true = subst (λ (b : Bool). not b ≡ true) both bad in cc)
@@ -146,6 +145,7 @@ key_kept houses k a utf8 is e = one (or_cases (bytes_eq k a.key.value) (not (is_
   where
     both : (is_utf8 k && is_utf8 a.key.value) ≡ true
     both = rw utf8 is.utf8
+
     one : (bytes_eq k a.key.value ≡ true) ⊎ (not (is_utf8 k && is_utf8 a.key.value) ≡ true) → k ≡ key a.name.value
     one (inl same) = (bytes_eq-Decides k a.key.value).0 same ∙ is.key_is
     one (inr bad) = absurd (let f : not true ≡ true = subst (λ (b : Bool). not b ≡ true) both bad in cc)
@@ -157,6 +157,7 @@ module _ (houses : Bool) (bytes : List ℕ) where
     where
       parts : (has_key entry.first.value (first_of block.addresses) ≡ true) × (has_key entry.last.value (last_of block.addresses) ≡ true)
       parts = and_parts (has_key entry.first.value (first_of block.addresses)) (has_key entry.last.value (last_of block.addresses)) keys.1.0
+
       one : (xs : List Address) → block.addresses ≡ xs → IsEnds houses bytes kept (records_in block)
       one [] e = absurd (let none : length block.addresses ≡ 0 = ap length e in omega (arith, none, some))
       one (x ∷ xs) e =
@@ -185,10 +186,10 @@ module _ (houses : Bool) (bytes : List ℕ) where
   all_ends start (kept ∷ more) (entry ∷ entries) [] are utf8 pairs counts keys = absurd (let f = pairs.0 in cc)
   all_ends start (kept ∷ more) (entry ∷ entries) (block ∷ blocks) are utf8 pairs counts keys = (
     ends_are start kept entry block are.0.first are.0.last (all_before Holds (entry_facts entry) (flat_map entry_facts entries) utf8) (all_before Holds (key_facts start entry block) (entry_pairs start entries blocks) pairs)
-    (leb-true 1 (length block.addresses) (and_parts (nat_le 1 (length block.addresses)) (nat_le (length block.addresses) 64) counts.0).0)
-    (all_before (IsKeyed houses) block.addresses (addresses_in blocks) keys),
+        (leb-true 1 (length block.addresses) (and_parts (nat_le 1 (length block.addresses)) (nat_le (length block.addresses) 64) counts.0).0)
+        (all_before (IsKeyed houses) block.addresses (addresses_in blocks) keys),
     all_ends start more entries blocks are.1 (all_behind Holds (entry_facts entry) (flat_map entry_facts entries) utf8) (all_behind Holds (key_facts start entry block) (entry_pairs start entries blocks) pairs) counts.1
-    (all_behind (IsKeyed houses) block.addresses (addresses_in blocks) keys),
+        (all_behind (IsKeyed houses) block.addresses (addresses_in blocks) keys),
   )
 
 ends_count : (houses : Bool) (bytes : List ℕ) (es : List EntryKept) (bs : List (List AddrRec)) → AreEnds houses bytes es bs → length es ≡ length bs

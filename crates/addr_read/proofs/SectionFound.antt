@@ -1,5 +1,5 @@
 -- What is found in a section of which every rule holds.
-use Rattle.std.proofs.Common.{◌≡◌, ℕ, Bool, true, false, List, [], ◌∷◌, ◌++◌, length, map, take, drop, ◌-◌, zero, suc, refl, sym, ap, subst, ◌∙◌}
+use Rattle.std.proofs.Common.{◌≡◌, ℕ, Bool, true, false, List, [], ◌∷◌, ◌++◌, map, take, drop, zero, suc, refl, sym, ap, ◌∙◌}
 use Rattle.std.specs.Prelude.{filter}
 use Rattle.std.specs.List.{AllByRecursion}
 use Rattle.std.proofs.lemmas.List.{append-nil, drop-map, take-map}
@@ -13,7 +13,6 @@ use Rattle.boxed_exact.specs.declared.fields.Payload.{Payload}
 use Rattle.boxed_laws.proofs.FittingRecords.{Holds, all_before, all_behind}
 use Rattle.boxed_read.specs.Steps.{joined}
 use Rattle.addr_section.specs.declared.kept.AddressesKept.{AddressesKept}
-use Rattle.addr_section.specs.declared.kept.EntryKept.{EntryKept}
 use Rattle.addr_read.specs.Finding.{due_blocks, is_wanted, may_hold}
 use Rattle.addr_read.specs.Records.{records_at, records_of}
 use Rattle.addr_read.specs.Searching.{between}

@@ -1,5 +1,5 @@
 -- Which addresses a key finds, and the blocks that may hold them.
-use Rattle.std.specs.Prelude.{◌≡◌, ℕ, ◌+◌, ◌==◌, List, [], ◌∷◌, Bool, true, false, ◌&&◌, ◌||◌, not, Option, Some, None, filter, bytes_eq}
+use Rattle.std.specs.Prelude.{◌≡◌, ℕ, ◌+◌, ◌==◌, List, [], ◌∷◌, Bool, true, false, ◌&&◌, ◌||◌, not, Option, Some, filter, bytes_eq}
 use Rattle.std.specs.List.{starts_with}
 use Rattle.std.specs.Ordering.{is_le, is_lt}
 use Rattle.name_fold.specs.Keys.{key}

@@ -1,8 +1,6 @@
-use Rattle.std.proofs.Common.{◌≡◌, ◌≤◌, ◌-◌, ℕ, List, length, take, drop, sym, ap, subst, ◌∙◌, arith}
+use Rattle.std.proofs.Common.{◌≡◌, length, sym, ap, subst, ◌∙◌, arith}
 use Rattle.std.specs.List.{prefix_len}
 use Rattle.std.proofs.lemmas.List.Sums.{prefix_len-le-length}
-use Rattle.boxed_exact.specs.declared.fields.Payload.{Payload}
-use Rattle.addr_section.specs.declared.kept.EntryKept.{EntryKept}
 use Rattle.addr_read.specs.Searching.{AreRising, begins_by, ends_before}
 use Rattle.addr_read.proofs.Search.{begun_where_ended, fewer}
 use Rattle.addr_read.proofs.finding.due_spans.Goals as goal
