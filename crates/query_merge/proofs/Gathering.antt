@@ -7,8 +7,8 @@ use Rattle.ordered_lists.proofs.StableSort.{filter_swap}
 use Rattle.live_model.specs.declared.queries.Query.{Query}
 use Rattle.live_model.specs.declared.records.Rec.{Rec}
 use Rattle.live_model.specs.declared.rules.Rule.{Rule}
-use Rattle.live_model.specs.Maps.{Overlay, answer, in_order}
-use Rattle.live_model.specs.Stores.{IsStore, apply}
+use Rattle.live_model.specs.Maps.{Overlay, answer}
+use Rattle.live_model.specs.Stores.{apply}
 use Rattle.map_laws.specs.Laws.{gives_rows, later_records, untouched_by}
 use Rattle.map_laws.proofs.InOrder.{alike, keeps, ranked}
 use Rattle.map_laws.proofs.MoreLaws.{answers}

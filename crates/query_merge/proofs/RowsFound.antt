@@ -1,5 +1,5 @@
 -- The rows of records each of which gives some are an answer.
-use Rattle.std.proofs.Common.{◌≡◌, Bool, true, false, List, [], ◌∷◌, ◌++◌, cond, not, refl, sym, ap, ◌∙◌, ◌&&◌}
+use Rattle.std.proofs.Common.{◌≡◌, Bool, true, false, List, [], ◌∷◌, ◌++◌, not, refl, sym, ◌&&◌}
 use Rattle.std.specs.Prelude.{bytes_eq, flat_map}
 use Rattle.std.specs.List.{AllByRecursion}
 use Rattle.live_model.specs.declared.queries.Query.{Query}
