@@ -1,15 +1,17 @@
 -- An address where it stands, field by field.
 use Rattle.std.proofs.Common.{◌≡◌, ◌<◌, ℕ, true, List, [], ◌∷◌, length, Option, Some, None, Ok, refl, sym, ap, subst, ◌∙◌, inl, inr, arith}
-use Rattle.std.specs.Prelude.{◌&&◌, not, nat_le, slice_range, IsUtf8}
+use Rattle.std.specs.Prelude.{Bool, ◌&&◌, ◌||◌, ◌⊎◌, bytes_eq, not, nat_le, slice_range, IsUtf8}
 use Rattle.std.specs.List.{AllByRecursion, list_all}
 use Rattle.std.specs.Str.{is_utf8}
 use Rattle.std.proofs.lemmas.Bool.{and_parts, eqb-true, or_cases}
 use Rattle.std.proofs.lemmas.Bool.Decides.{nat_tests}
 use Rattle.std.proofs.lemmas.Str.{IsUtf8-from_is_utf8, IsUtf8-nil}
+use Rattle.std.proofs.lemmas.Slice.Eq.{bytes_eq-Decides}
+use Rattle.name_fold.specs.Keys.{key}
 use Rattle.live_model.specs.Records.{is_empty, is_language, is_language_byte}
 use Rattle.live_model.proofs.CanonicalBytes.{ascii_utf8}
 use Rattle.obf_wire.specs.Fields.{part_of}
-use Rattle.file_grammar.specs.AddressRules.{Address, address_with, is_house_kind, lang_facts, lang_in}
+use Rattle.file_grammar.specs.AddressRules.{Address, address_with, is_house_kind, is_key_of, lang_facts, lang_in}
 use Rattle.file_grammar.specs.Facts.{AllHold}
 use Rattle.file_grammar.specs.Messages.{Fields, ends, has_number, has_bytes, has_numbers, has_message}
 use Rattle.file_grammar.specs.Readings.{numbers_at}
@@ -46,12 +48,12 @@ address_by at fields m = record {
 
 -- fields that stand so are those of the address
 pub fields_hold : (at : ℕ) (fields : Fields) (m : IsAddressMessage fields) (a : Address) (bytes : List ℕ) (seen : AddressFields) → address_with at fields ≡ Some a → seen.ordinal ≡ m.ordinal → seen.kind ≡ m.kind
-    → slice_range bytes seen.name.from seen.name.to ≡ m.name → slice_range bytes seen.number.from seen.number.to ≡ m.number → numbers_at (part_of bytes seen.points.from seen.points.to) ≡ Ok m.points → IsTextLeft bytes seen.lang m.rest
+    → slice_range bytes seen.key.from seen.key.to ≡ m.key → slice_range bytes seen.name.from seen.name.to ≡ m.name → slice_range bytes seen.number.from seen.number.to ≡ m.number → numbers_at (part_of bytes seen.points.from seen.points.to) ≡ Ok m.points → IsTextLeft bytes seen.lang m.rest
     → HoldsAddress bytes seen a
-fields_hold at fields m a bytes seen is ordinal kind name number points lang =
+fields_hold at fields m a bytes seen is ordinal kind key name number points lang =
     let made : address_with at fields ≡ Some (address_by at fields m) = ap (address_with at) m.is in
     let same : address_by at fields m ≡ a = let both = sym made ∙ is in cc in
-    subst (HoldsAddress bytes seen) same (record { ordinal = ordinal; kind = kind; name = name; number = number; points = points; lang = lang })
+    subst (HoldsAddress bytes seen) same (record { ordinal = ordinal; kind = kind; key = key; name = name; number = number; points = points; lang = lang })
 
 -- ---- its texts
 
@@ -79,15 +81,31 @@ lang_utf8 kind (Some lang) all = elim (or_cases (is_empty lang.value) (is_langua
   | inr some ↦ language_utf8 lang.value (and_parts (is_language lang.value) (not (is_house_kind kind)) some).0
 ]
 
+-- a text beside a name that is UTF-8 is its key
+pub key_found : (name k : List ℕ) → is_utf8 name ≡ true → is_key_of name k ≡ true → k ≡ key name
+key_found name k utf8 e = one (or_cases (bytes_eq k (key name)) (not (is_utf8 name)) (and_parts (is_utf8 k) (bytes_eq k (key name) || not (is_utf8 name)) e).1)
+  where
+    one : (bytes_eq k (key name) ≡ true) ⊎ (not (is_utf8 name) ≡ true) → k ≡ key name
+    one (inl same) = (bytes_eq-Decides k (key name)).0 same
+    one (inr bad) = absurd (let f : not true ≡ true = subst (λ (b : Bool). not b ≡ true) utf8 bad in cc)
+
 -- all texts of a sound address are
 pub record AreTexts (a : Address) : Type 0 where
+  pub key : IsUtf8 a.key.value
   pub lang : IsUtf8 (lang_text a.lang)
   pub name : IsUtf8 a.name.value
   pub number : IsUtf8 a.number.value
 
 pub texts_of : (a : Address) → IsSoundAddress a → AreTexts a
 texts_of a s = record {
+  key = IsUtf8-from_is_utf8 a.key.value (and_parts (is_utf8 a.key.value) _ s.facts.1.1.1.1.0).0;
   lang = lang_utf8 a.kind.value a.lang s.facts.1.1.1.1.1.1.1.1;
   name = IsUtf8-from_is_utf8 a.name.value (and_parts (is_utf8 a.name.value) (not (is_empty a.name.value)) s.facts.1.1.1.1.1.0).0;
   number = IsUtf8-from_is_utf8 a.number.value (and_parts (is_utf8 a.number.value) _ s.facts.1.1.1.1.1.1.0).0;
 }
+
+-- its key is that of its name
+pub key_of : (a : Address) → IsSoundAddress a → a.key.value ≡ key a.name.value
+key_of a s =
+    let utf8 = (and_parts (is_utf8 a.name.value) (not (is_empty a.name.value)) s.facts.1.1.1.1.1.0).0 in
+    key_found a.name.value a.key.value utf8 s.facts.1.1.1.1.0

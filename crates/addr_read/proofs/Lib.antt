@@ -1,3 +1,10 @@
 pub mod AddressRead
+pub mod BlockSearch
 pub mod BlockWalk
+pub mod Due
+pub mod Keyed
+pub mod Search
+pub mod Searched
+pub mod SectionFound
 pub mod SectionRead
+pub mod TextOrder

@@ -73,7 +73,7 @@ houses_hold version w kept h =
 
 -- ---- the records
 
-spans_read : (version : Version) (bytes : List ℕ) (spans : List Payload) (blocks : List KeyedBlock) → AreBlocksKept version bytes spans blocks
+pub spans_read : (version : Version) (bytes : List ℕ) (spans : List Payload) (blocks : List KeyedBlock) → AreBlocksKept version bytes spans blocks
     → records_of version bytes spans ≡ map (λ block. map address_record_of block.addresses) blocks
 spans_read version bytes [] [] are = refl
 spans_read version bytes [] (block ∷ blocks) are = absurd are
@@ -96,7 +96,7 @@ section_read version w kept fields h e =
     ∙ ap (λ (houses : List (List AddrRec)). list_blocks all.names ++ houses) (spans_read version w.bytes kept.houses.blocks.items all.houses.blocks h.are.houses.blocks)
     ∙ ap (λ (fs : Fields). address_blocks (addresses_of fs)) same
 
-list_joined : (blocks : List KeyedBlock) → joined (map (λ block. map address_record_of block.addresses) blocks) ≡ map address_record_of (addresses_in blocks)
+pub list_joined : (blocks : List KeyedBlock) → joined (map (λ block. map address_record_of block.addresses) blocks) ≡ map address_record_of (addresses_in blocks)
 list_joined [] = refl
 list_joined (block ∷ blocks) =
     ap (λ (rs : List AddrRec). map address_record_of block.addresses ++ rs) (list_joined blocks) ∙ sym (map-append address_record_of block.addresses (addresses_in blocks))

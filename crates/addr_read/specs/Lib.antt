@@ -1,2 +1,4 @@
+pub mod Finding
 pub mod Records
+pub mod Searching
 pub mod Sound

@@ -1,5 +1,5 @@
 -- Addresses in which every rule holds, where they stand.
-use Rattle.std.specs.Prelude.{◌≡◌, ◌≤◌, ℕ, List, [], length, slice_range, Bool, Option, Some, Ok, unwrap_or}
+use Rattle.std.specs.Prelude.{◌≡◌, ◌≤◌, ◌+◌, ◌*◌, ℕ, List, [], length, slice_range, Bool, Option, Some, Ok, unwrap_or}
 use Rattle.std.specs.List.{AllByRecursion}
 use Rattle.std.specs.Option.{option_map}
 use Rattle.obf_wire.specs.Fields.{Window, IsWindow, part_of}
@@ -34,6 +34,7 @@ lang_text lang = unwrap_or (option_map (λ l. l.value) lang) []
 pub record HoldsAddress (bytes : List ℕ) (seen : AddressFields) (a : Address) : Type 0 where
   pub ordinal : seen.ordinal ≡ a.ordinal.value
   pub kind : seen.kind ≡ a.kind.value
+  pub key : slice_range bytes seen.key.from seen.key.to ≡ a.key.value
   pub name : slice_range bytes seen.name.from seen.name.to ≡ a.name.value
   pub number : slice_range bytes seen.number.from seen.number.to ≡ a.number.value
   pub points : numbers_at (part_of bytes seen.points.from seen.points.to) ≡ Ok a.points.value
@@ -49,6 +50,7 @@ IsInside bytes span = (span.from ≤ span.to) × (span.to ≤ length bytes)
 
 -- all payloads of an address do
 pub record AreInside (bytes : List ℕ) (seen : AddressFields) : Type 0 where
+  pub key : IsInside bytes seen.key
   pub name : IsInside bytes seen.name
   pub number : IsInside bytes seen.number
   pub points : IsInside bytes seen.points
@@ -71,10 +73,10 @@ pub record IsSoundAt (version : Version) (w : Window) : Type 0 where
 
 -- Blocks.
 
--- messages behind the key of addresses
+-- messages with the key of the field of an address, the first one of a block, with a length as a number
 abbrev pub AreListed : Fields → Type 0
 AreListed ends = Unit {0}
-AreListed (has_message at key inner rest) = (key ≡ 10) × AreListed rest
+AreListed (has_message at key inner rest) = (key ≡ 1 * 8 + 2) × AreListed rest
 AreListed fields = ⊥
 
 -- addresses of which every rule holds are left of a block

@@ -18,6 +18,7 @@ use obf_wire::Window;
 pub(crate) struct AddressFields {
     pub(crate) ordinal: u64,
     pub(crate) kind: u64,
+    pub(crate) key: Payload,
     pub(crate) name: Payload,
     pub(crate) number: Payload,
     pub(crate) points: Payload,
@@ -32,7 +33,7 @@ pub(crate) fn read_fields(version: Version, window: Window<'_>) -> AddressFields
     let mut walk = FieldWalk::new(Part::Address(version), window);
     let ordinal = next_number(&mut walk);
     let kind = next_number(&mut walk);
-    let _key = next_payload(&mut walk);
+    let key = next_payload(&mut walk);
     let name = next_payload(&mut walk);
     let number = next_payload(&mut walk);
     let points = next_payload(&mut walk);
@@ -40,6 +41,7 @@ pub(crate) fn read_fields(version: Version, window: Window<'_>) -> AddressFields
     AddressFields {
         ordinal: ordinal.value,
         kind: kind.value,
+        key,
         name,
         number,
         points,

@@ -11,10 +11,13 @@
 mod block;
 mod cursor;
 mod fields;
+mod finding;
+mod found;
 mod section;
 mod view;
 
 pub use block::Addresses;
 pub use cursor::AllCursor;
+pub use found::FoundCursor;
 pub use section::Section;
 pub use view::View;

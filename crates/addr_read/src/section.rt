@@ -1,16 +1,19 @@
 //! Addresses that were checked.
 
-ghost use Rattle.std.specs.Prelude.{◌≡◌, [], Ok, length};
+ghost use Rattle.std.specs.Prelude.{◌≡◌, [], Ok, false, filter, length, map, true};
 ghost use Rattle.obf_wire.specs.Windows.{range_of};
 ghost use Rattle.file_grammar.specs.declared.parts.Part.TheVariants.{Addresses as AddressesPart};
 ghost use Rattle.file_grammar.specs.AddressRules.{address_records_in, addresses_of};
 ghost use Rattle.file_grammar.specs.Messages.{Fields};
 ghost use Rattle.file_grammar.specs.Readings.{message_at};
-ghost use Rattle.boxed_read.specs.Steps.{joined};
+ghost use Rattle.boxed_read.specs.Steps.{joined, still_left};
+ghost use Rattle.addr_read.specs.Finding.{due_blocks, has_prefix, has_street};
 ghost use Rattle.addr_read.specs.Records.{address_blocks};
 ghost use Rattle.addr_read.specs.Sound.{AreChecked};
 
 use crate::cursor::AllCursor;
+use crate::finding::due_spans;
+use crate::found::FoundCursor;
 use addr_section::AddressesKept;
 use file_grammar::Version;
 use obf_wire::Window;
@@ -70,5 +73,25 @@ impl<'a> Section<'a> {
             self.kept.names().blocks(),
             self.kept.houses().blocks(),
         )
+    }
+
+    /// The places and streets whose key begins with this one, byte by byte, in the order of the file. A block is read only where its first
+    /// and its last key allow one. It takes no memory.
+    pub fn by_prefix<'k>(&self, key: &'k str) -> FoundCursor<'a, 'k>
+        ensures due { result ≡ record { here = []; blocks = map (filter (has_prefix key.now)) (due_blocks false key.now self.now) } }
+        ensures found { still_left result ≡ filter (has_prefix key.now) (joined self.now) }
+    {
+        let spans = due_spans(self.window, self.kept.names(), false, key);
+        FoundCursor::new(self.version, self.window, spans, false, key)
+    }
+
+    /// The houses of the street with this key, in the order of the file. A block is read only where its first and its last key allow one.
+    /// It takes no memory.
+    pub fn by_street<'k>(&self, key: &'k str) -> FoundCursor<'a, 'k>
+        ensures due { result ≡ record { here = []; blocks = map (filter (has_street key.now)) (due_blocks true key.now self.now) } }
+        ensures found { still_left result ≡ filter (has_street key.now) (joined self.now) }
+    {
+        let spans = due_spans(self.window, self.kept.houses(), true, key);
+        FoundCursor::new(self.version, self.window, spans, true, key)
     }
 }

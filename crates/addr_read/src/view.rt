@@ -2,10 +2,12 @@
 
 ghost use Rattle.std.specs.Prelude.{◌≡◌, IfOk, IsUtf8, Ok, Some, slice_range, ℕ};
 ghost use Rattle.obf_wire.specs.Windows.{range_of};
+ghost use Rattle.name_fold.specs.Keys.{key};
 ghost use Rattle.file_grammar.specs.declared.parts.Part.TheVariants.{Address as AddressPart};
 ghost use Rattle.file_grammar.specs.AddressRules.{Address, address_record_of, address_with, kind_from};
 ghost use Rattle.file_grammar.specs.Messages.{Fields};
 ghost use Rattle.file_grammar.specs.Readings.{message_at};
+ghost use Rattle.addr_read.specs.Finding.{is_wanted};
 ghost use Rattle.addr_read.specs.Sound.{AreInside, HoldsAddress, IsInside, IsSoundAt, IsSoundRead};
 
 use crate::fields::{AddressFields, read_fields};
@@ -13,6 +15,7 @@ use boxed_exact::Payload;
 use boxed_read::{object, one_point};
 use file_grammar::Version;
 use live_model::{AddrKind, AddrRec, ObjId, Point};
+use name_fold::is_prefix;
 use obf_wire::Window;
 use owned_data::{Mem, Text};
 use std::alloc::Global;
@@ -24,11 +27,12 @@ const PLACE: u64 = 0;
 
 const STREET: u64 = 1;
 
-/// An address of a section, seen as the record; it borrows the bytes.
+/// An address of a section, seen as the record; it borrows the bytes. The file has the key of its name beside it.
 #[derive(Drop)]
 pub struct View<'a> {
     id: ObjId,
     kind: AddrKind,
+    key: &'a str,
     lang: &'a str,
     name: &'a str,
     number: &'a str,
@@ -36,11 +40,14 @@ pub struct View<'a> {
 }
 
 impl<'a> Model for View<'a> {
+    ghost use Rattle.addr_read.specs.Finding.{IsKeyOf};
     ghost use Rattle.live_model.specs.declared.addresses.AddrRec.{AddrRec};
 
     ghost Value = { AddrRec };
 
     ghost view = { λ v. record { id = v.id; kind = v.kind; lang = v.lang.now; name = v.name.now; number = v.number.now; point = v.point } };
+
+    ghost invariant = { λ v. IsKeyOf v.key.now v.name.now };
 }
 
 impl<'a> View<'a> {
@@ -62,6 +69,7 @@ impl<'a> View<'a> {
         View {
             id: object(fields.ordinal),
             kind: kind_of(fields.kind),
+            key: text_at(window, fields.key),
             lang: text_at(window, fields.lang),
             name: text_at(window, fields.name),
             number: text_at(window, fields.number),
@@ -74,6 +82,23 @@ impl<'a> View<'a> {
         ensures { result ≡ self.now.id }
     {
         self.id
+    }
+
+    /// The key of its name, as the file has it. It takes no memory.
+    pub fn key(&self) -> &'a str
+        ensures { result.now ≡ key self.now.name }
+    {
+        self.key
+    }
+
+    /// Whether it is a house of the street with this key, or else a place or a street whose key begins with it.
+    pub(crate) fn is_wanted(&self, houses: bool, key: &str) -> bool
+        ensures { result ≡ is_wanted houses key.now self.now }
+    {
+        if houses {
+            return self.kind == AddrKind::House && self.key == key;
+        }
+        self.kind != AddrKind::House && is_prefix(key, self.key)
     }
 
     /// The address.

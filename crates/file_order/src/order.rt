@@ -9,6 +9,7 @@ ghost use Rattle.file_order.specs.Runs.{first_failing, is_after, is_base, later_
 
 use crate::kinds::{NotRun, RunKind};
 use stamp_core::{Head, Stamp};
+use std::sync::Arc;
 use tag_rules::Rules;
 
 /// A file whose place among others is asked: what it covers, and its rules.
@@ -30,6 +31,23 @@ impl<F: Ordered> Ordered for &F {
     ghost head_of = { λ f. F.head_of f.now };
 
     ghost rules_of = { λ f. F.rules_of f.now };
+
+    fn head(&self) -> &Head {
+        (**self).head()
+    }
+
+    fn rules(&self) -> &Rules {
+        (**self).rules()
+    }
+}
+
+/// A shared file.
+impl<F: Ordered> Ordered for Arc<F> {
+    ghost use Rattle.std.specs.Arc.{arc_value};
+
+    ghost head_of = { λ f. F.head_of (arc_value f) };
+
+    ghost rules_of = { λ f. F.rules_of (arc_value f) };
 
     fn head(&self) -> &Head {
         (**self).head()
@@ -66,7 +84,7 @@ pub fn follows<F: Ordered>(files: &[F]) -> Result<(), NotRun>
     Ok(())
 }
 
-/// That the first file is no base.
+/// The misfit of a first file that is no base, or is not there.
 fn not_base() -> NotRun
     ensures { result ≡ told_at 0 NotBase }
 {

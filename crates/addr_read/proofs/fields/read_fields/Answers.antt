@@ -32,16 +32,19 @@ returns-clause-read c fields at a read is =
     let four = c.next_payload-name.ensures.text m.d 34 m.name r5 three.2 in
     let five = c.next_payload-number.ensures.text m.e 42 m.number r6 four.2 in
     let six = c.next_payload-points.ensures.numbers m.f 50 m.points m.rest five.2 in
+    let s1 : c.next_number-kind.new.walk.window.bytes ≡ bytes = c.next_number-kind.ensures.same ∙ c.next_number-ordinal.ensures.same ∙ ap (λ (w : Standing). w.window.bytes) c.new-walk.ensures in
     let s2 : c.next_payload-key.new.walk.window.bytes ≡ bytes =
-    c.next_payload-key.ensures.same ∙ c.next_number-kind.ensures.same ∙ c.next_number-ordinal.ensures.same ∙ ap (λ (w : Standing). w.window.bytes) c.new-walk.ensures in
+    c.next_payload-key.ensures.same ∙ s1 in
     let s3 : c.next_payload-name.new.walk.window.bytes ≡ bytes = c.next_payload-name.ensures.same ∙ s2 in
     let s4 : c.next_payload-number.new.walk.window.bytes ≡ bytes = c.next_payload-number.ensures.same ∙ s3 in
     let s5 : c.next_payload-points.new.walk.window.bytes ≡ bytes = c.next_payload-points.ensures.same ∙ s4 in
+    let key = c.next_payload-key.result in
     let name = c.next_payload-name.result in
     let number = c.next_payload-number.result in
     let points = c.next_payload-points.result in
     let lang = c.last_text-lang.result in
-    fields_hold at fields m a bytes _ is one.1 two.1 (subst (λ (bs : List ℕ). slice_range bs name.from name.to ≡ m.name) s2 four.1)
+    fields_hold at fields m a bytes _ is one.1 two.1 (subst (λ (bs : List ℕ). slice_range bs key.from key.to ≡ m.key) s1 three.1)
+    (subst (λ (bs : List ℕ). slice_range bs name.from name.to ≡ m.name) s2 four.1)
     (subst (λ (bs : List ℕ). slice_range bs number.from number.to ≡ m.number) s3 five.1) (subst (λ (bs : List ℕ). numbers_at (part_of bs points.from points.to) ≡ Ok m.points) s4 six.1)
     (text_left bytes lang m.rest m.lang (λ e. subst (λ (bs : List ℕ). IsTextLeft bs lang ends) s5 (c.last_text-lang.ensures.none (six.2 ∙ ap stands e)))
     (λ at key text more e. subst (λ (bs : List ℕ). IsTextLeft bs lang (has_bytes at key text more)) s5 (c.last_text-lang.ensures.text at key text more (six.2 ∙ ap stands e))))
