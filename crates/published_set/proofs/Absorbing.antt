@@ -1,5 +1,5 @@
 -- What is taken in is the swap, where it may come.
-use Rattle.std.proofs.Common.{◌≡◌, ◌<◌, ◌≤◌, ◌-◌, ◌^◌, Bool, true, cond, ◌&&◌, nat_lt, List, ◌+◌, length, refl, sym, ap, ap₂, ◌∙◌, arith}
+use Rattle.std.proofs.Common.{◌≡◌, ◌<◌, ◌≤◌, ◌-◌, ◌^◌, Bool, true, cond, ◌&&◌, nat_lt, List, ◌+◌, length, ap, ap₂, ◌∙◌, arith}
 use Rattle.std.proofs.lemmas.Bool.Decides.{nat_tests}
 use Rattle.live_model.specs.declared.objects.Line.{Line}
 use Rattle.live_model.specs.declared.rules.Rule.{Rule}
