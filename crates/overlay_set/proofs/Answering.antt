@@ -13,6 +13,7 @@ use Rattle.overlay_set.specs.Swaps.{FoldPlan, missing}
 use Rattle.overlay_set.proofs.Overlays.{AreOverlays}
 use Rattle.overlay_set.specs.Machines.{Event, Publish, Plan, Commit, Take, Ask, Drop, Tell, Shrink, Rows, Machine, Limits, at_place, asked, shrink, commit, commit_over, step}
 use Rattle.overlay_set.specs.SetLaws.{AreGood}
+use Rattle.overlay_set.specs.MachineLaws.{IsNoPublish}
 use Rattle.overlay_set.proofs.Showing.{shown_law}
 
 -- the rows over the files of a set that stands are those of the map made anew
@@ -21,11 +22,6 @@ pub rows_law : FoldedLaw → HistoryLaw → (limits : Limits) (rules : List Rule
     → asked limits rules base (Some s) query ≡ Rows (length s.history) (answer rules query (rebuilt rules base (lines_of s.history)))
 rows_law fold_ history_ limits rules base s query store lines good st =
     ap (λ records. Rows (length s.history) (answer rules query records)) (shown_law fold_ history_ rules base s store lines good st)
-
--- a publication alone changes the history
-abbrev pub IsNoPublish : Event → Type 0
-IsNoPublish (Publish pass stamp tag lines) = ⊥
-IsNoPublish event = Unit {0}
 
 commit_keeps : (limits : Limits) (rules : List Rule) (base : List Line) (plan : Option FoldPlan) (s : State) → (commit limits rules base plan s).0.history ≡ s.history
 commit_keeps limits rules base None s = refl

@@ -1,17 +1,20 @@
 -- The laws of sets, with the laws of maps and folds.
-use Rattle.std.proofs.Common.{List, [], ◌∷◌, ◌++◌, ap, arith}
+use Rattle.std.proofs.Common.{◌≡◌, ℕ, zero, suc, List, [], ◌∷◌, ◌++◌, Option, Some, None, slice_get, sym, ap, subst, ◌∙◌, arith}
+use mathlib.Core.List.{IsPrefix}
 use Rattle.std.specs.List.{AllByRecursion}
 use Rattle.live_model.specs.Objects.{IsGoodLine}
-use Rattle.live_model.specs.Maps.{answer}
+use Rattle.live_model.specs.Maps.{answer, rebuilt}
 use Rattle.map_laws.proofs.FoldLaws.{fold_is_laid, folds}
 use Rattle.map_laws.proofs.OverlayProof.{history}
-use Rattle.overlay_set.specs.Sets.{Entry, State}
+use Rattle.overlay_set.specs.Sets.{Entry, State, lines_of}
 use Rattle.overlay_set.specs.Swaps.{Swap, Add, Replace, applied}
 use Rattle.overlay_set.specs.SetLaws.{AnswerLaw, AreGood, IsGoodSwap, JournalStandsLaw, NumberLaw, ShownLaw, SwapLaw}
-use Rattle.overlay_set.specs.MachineLaws.{EventsLaw, StepLaw}
+use Rattle.overlay_set.specs.Machines.{Event, Publish, Plan, Commit, Take, Ask, Drop, Tell, Shrink, asked, step}
+use Rattle.overlay_set.specs.MachineLaws.{AskLaw, EventsLaw, IsGoodEvent, IsHeld, IsNoPublish, IsSeen, MachineStands, SeenLaw, StayLaw, StepLaw}
+use Rattle.overlay_set.proofs.Answering.{history_stays, rows_law}
 use Rattle.overlay_set.proofs.Overlays.{are_overlays}
 use Rattle.overlay_set.proofs.Showing.{shown_law}
-use Rattle.overlay_set.proofs.Stepping.{events_law, step_law}
+use Rattle.overlay_set.proofs.Stepping.{all_get, events_law, step_law}
 use Rattle.overlay_set.proofs.Swapping.{swap_law}
 
 pub swaps : SwapLaw
@@ -44,3 +47,47 @@ steps limits rules base store m event fine ms = step_law folds limits rules base
 
 pub events : EventsLaw
 events limits rules base store m list fine ms = events_law folds limits rules base (λ past good. are_overlays rules base past store good) m list fine ms
+
+-- What passes are answered.
+
+good_before : (xs ys : List Entry) → AreGood (xs ++ ys) → AreGood xs
+good_before [] ys good = tt
+good_before (x ∷ xs) ys good = (good.0, good_before xs ys good.1)
+
+good_prefix : (xs ys : List Entry) → IsPrefix xs ys → AreGood ys → AreGood xs
+good_prefix xs ys before good = good_before xs before.0 (subst AreGood (sym before.1) good)
+
+some_of : {A : Type 0} (P : A → Type 0) (xs : List A) (n : ℕ) (x : A) → AllByRecursion P xs → slice_get xs n ≡ Some x → P x
+some_of P [] n x all e = absurd cc
+some_of P (y ∷ ys) zero x all e = subst P (cc e) all.0
+some_of P (y ∷ ys) (suc n) x all e = some_of P ys n x all.1 e
+
+pub seen : SeenLaw
+seen rules base m pass s ms e = (some_of (IsSeen rules base m.now) m.seen pass s ms.seen_before e).1.history
+
+pub asks : AskLaw
+asks limits rules base store m pass query s ms e =
+    let held : IsSeen rules base m.now s = subst (IsHeld rules base m.now) e (all_get (IsHeld rules base m.now) m.held pass None ms.held_before tt) in
+    let good : AreGood s.history = good_prefix s.history m.now.history held.1.history ms.good in (
+      held.1.history,
+      ap (λ (o : Option State). asked limits rules base o query) e ∙ rows_law fold_is_laid history limits rules base s query store good (are_overlays rules base s.history store good) held.0,
+    )
+
+good_event : (event : Event) → IsNoPublish event → IsGoodEvent event
+good_event (Publish pass stamp tag lines) is = absurd is
+good_event (Plan worker) is = tt
+good_event (Commit worker) is = tt
+good_event (Take pass) is = tt
+good_event (Ask pass query) is = tt
+good_event (Drop pass) is = tt
+good_event (Tell from to) is = tt
+good_event Shrink is = tt
+
+pub stays : StayLaw
+stays limits rules base store m event is ms =
+    let same = history_stays limits rules base m event is in
+    let next : MachineStands rules base (step limits rules base m event).0 = steps limits rules base store m event (good_event event is) ms in (
+      same,
+      λ query. answers rules base (step limits rules base m event).0.now query store next.good next.stands
+          ∙ ap (λ (entries : List Entry). answer rules query (rebuilt rules base (lines_of entries))) same ∙ sym (answers rules base m.now query store ms.good ms.stands),
+    )

@@ -10,7 +10,7 @@ use Rattle.live_model.specs.Stores.{apply}
 use Rattle.live_model.specs.Maps.{published}
 use Rattle.stamp_core.specs.Hours.{CivilHour}
 use Rattle.stamp_core.specs.declared.head.Head.{Head}
-use Rattle.overlay_set.specs.Sets.{Entry, Image, MapFile, State, images_of, lines_of, last_in, run_head, stamps_of}
+use Rattle.overlay_set.specs.Sets.{Entry, Image, MapFile, images_of, lines_of, last_in, run_head, stamps_of}
 use Rattle.overlay_set.specs.Periods.{foldable, is_hour_of, is_within, run_images, settled_level, settled_runs, stretch}
 use Rattle.overlay_set.specs.Standing.{AreFilesOf, AreRising}
 use Rattle.overlay_set.specs.Loose.{before_loose, heads_of, is_loose, is_loose_at, is_other_level, next_begins_in, period_before}

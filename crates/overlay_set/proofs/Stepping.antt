@@ -146,7 +146,7 @@ all_set P [] n x all px = tt
 all_set P (y ∷ ys) zero x all px = (px, all.1)
 all_set P (y ∷ ys) (suc n) x all px = (all.0, all_set P ys n x all.1 px)
 
-all_get : {A : Type 0} (P : A → Type 0) (xs : List A) (n : ℕ) (d : A) → AllByRecursion P xs → P d → P (unwrap_or (slice_get xs n) d)
+pub all_get : {A : Type 0} (P : A → Type 0) (xs : List A) (n : ℕ) (d : A) → AllByRecursion P xs → P d → P (unwrap_or (slice_get xs n) d)
 all_get P [] n d all pd = pd
 all_get P (y ∷ ys) zero d all pd = all.0
 all_get P (y ∷ ys) (suc n) d all pd = all_get P ys n d all.1 pd

@@ -1,29 +1,26 @@
 -- Heads tell which period is not yet one file.
-use Rattle.std.proofs.Common.{◌≡◌, ◌≢◌, ℕ, suc, ◌+◌, ◌<◌, ◌≤◌, ◌⊎◌, Bool, true, false, cond, ◌&&◌, ◌||◌, not, ◌==◌, nat_le, nat_lt, List, [], ◌∷◌, ◌++◌, length, map, drop, take, flat_map, find, filter, Option, Some, None, slice_get, refl, sym, ap, ap₂, subst, ◌∙◌, inl, inr, ⊎_elim, append_assoc, length-append, nat_cmp, Less, arith}
-use Rattle.std.specs.List.{AllByRecursion, last_or, list_any, prefix_len, take_while}
+use Rattle.std.proofs.Common.{◌≡◌, ◌≢◌, ℕ, suc, ◌+◌, ◌<◌, ◌≤◌, Bool, true, false, cond, ◌&&◌, ◌||◌, not, ◌==◌, nat_le, List, [], ◌∷◌, ◌++◌, length, drop, take, flat_map, find, Option, Some, None, slice_get, refl, sym, ap, ap₂, subst, ◌∙◌, inl, append_assoc, length-append, nat_cmp, Less, arith}
+use Rattle.std.specs.List.{AllByRecursion, prefix_len, take_while}
 use Rattle.std.proofs.lemmas.Bool.Decides.{nat_tests}
 use Rattle.std.proofs.lemmas.List.Sums.{take_while-cons}
 use Rattle.live_model.specs.declared.levels.Level.{Level}
-use Rattle.live_model.specs.declared.levels.Level.TheVariants.{Base, Hour, Day, Month}
+use Rattle.live_model.specs.declared.levels.Level.TheVariants.{Hour, Day, Month}
 use Rattle.live_model.specs.declared.objects.Entity.{Entity}
-use Rattle.live_model.specs.declared.objects.Line.{Line}
 use Rattle.live_model.specs.declared.rules.Rule.{Rule}
 use Rattle.live_model.specs.Levels.{level_number}
 use Rattle.live_model.specs.Stores.{apply}
 use Rattle.live_model.specs.Maps.{published}
 use Rattle.stamp_core.specs.Hours.{CivilHour, number_of}
 use Rattle.stamp_core.specs.declared.head.Head.{Head}
-use Rattle.overlay_set.specs.Sets.{Entry, Image, MapFile, State, images_of, lines_of, stamps_of, last_in, run_head, base_image}
-use Rattle.overlay_set.specs.Periods.{Period, stretch, is_within, is_past, is_closed, settled_level, settled_runs, cut_by, period_of, periods, is_hour_of, is_file_of, files_in, is_one_of_level, foldable, shrinkable, places_of}
-use Rattle.overlay_set.specs.Standing.{IsRunOf, AreFilesOf, AreRising}
+use Rattle.overlay_set.specs.Sets.{Entry, Image, MapFile, State, images_of, lines_of, stamps_of, last_in, base_image}
+use Rattle.overlay_set.specs.Periods.{Period, stretch, is_within, is_past, is_closed, settled_level, cut_by, period_of, periods, is_hour_of, is_file_of, files_in, is_one_of_level, places_of}
+use Rattle.overlay_set.specs.Standing.{AreFilesOf, AreRising}
 use Rattle.overlay_set.specs.Swaps.{IsAmong}
-use Rattle.overlay_set.specs.Loose.{heads_of, period_before, begins_in, next_begins_in, is_other_level, is_loose_at, is_loose, before_loose, loose_period, IsTold, HeadsLaw}
-use Rattle.overlay_set.proofs.Closing.{filter-append, less-lt, stretch-mono}
-use Rattle.overlay_set.proofs.Fitting.{of_all}
+use Rattle.overlay_set.specs.Loose.{heads_of, period_before, begins_in, next_begins_in, is_other_level, is_loose_at, is_loose, before_loose, loose_period, HeadsLaw}
+use Rattle.overlay_set.proofs.Closing.{less-lt, stretch-mono}
 use Rattle.overlay_set.proofs.Spans.{rising_right}
 use Rattle.overlay_set.proofs.Staying.{run_some, among_right}
-use Rattle.overlay_set.proofs.Planning.{IsPeriodOf, one_period, alike}
-use Rattle.overlay_set.proofs.Settling.{goes, AreOf, Stops, cut_head, cut_run, before_all, low_hour, settled_same}
+use Rattle.overlay_set.proofs.Settling.{goes, Stops, cut_head, cut_run, before_all, low_hour, settled_same}
 use Rattle.overlay_set.proofs.Filling.{kept_all, one_kept}
 
 -- The last hour tells what is closed.

@@ -1,15 +1,18 @@
 -- What holds of a machine after every list of events.
-use Rattle.std.specs.Prelude.{ℕ, List, [], Option, Some, None}
+use Rattle.std.specs.Prelude.{◌≡◌, ℕ, List, [], length, Option, Some, None, slice_get}
+use mathlib.Core.List.{IsPrefix}
 use Rattle.std.specs.List.{AllByRecursion}
 use Rattle.live_model.specs.declared.objects.Line.{Line}
 use Rattle.live_model.specs.declared.rules.Rule.{Rule}
 use Rattle.live_model.specs.Objects.{IsGoodLine}
 use Rattle.live_model.specs.Stores.{IsStore, apply}
-use Rattle.overlay_set.specs.Sets.{State}
+use Rattle.live_model.specs.declared.queries.Query.{Query}
+use Rattle.live_model.specs.Maps.{answer, rebuilt}
+use Rattle.overlay_set.specs.Sets.{State, lines_of, shown}
 use Rattle.overlay_set.specs.Standing.{Stands}
 use Rattle.overlay_set.specs.Swaps.{FoldPlan, IsLater, Fits}
 use Rattle.overlay_set.specs.SetLaws.{AreGood}
-use Rattle.overlay_set.specs.Machines.{Event, Publish, Machine, Limits, opened, step, machine_after}
+use Rattle.overlay_set.specs.Machines.{Event, Publish, Ask, Rows, Machine, Limits, at_place, opened, step, machine_after}
 
 -- it stands, and the present state is it or a later one
 abbrev pub IsSeen : List Rule → List Line → State → State → Type 0
@@ -51,3 +54,26 @@ OpenedLaw = (rules : List Rule) (base : List Line) (passes workers : ℕ) → Ma
 abbrev pub EventsLaw : Type 0
 EventsLaw = (limits : Limits) (rules : List Rule) (base : List Line) → IsStore (apply [] base)
     → (m : Machine) (events : List Event) → AllByRecursion IsGoodEvent events → MachineStands rules base m → MachineStands rules base (machine_after limits rules base m events)
+
+-- What passes are answered.
+
+-- the present history begins with what a pass has seen, and so with what it takes
+abbrev pub SeenLaw : Type 0
+SeenLaw = (rules : List Rule) (base : List Line) (m : Machine) (pass : ℕ) (s : State) → MachineStands rules base m → slice_get m.seen pass ≡ Some s → IsPrefix s.history m.now.history
+
+-- a question has the answer of the map made anew of the base and the history that the pass holds, with which the present history begins
+abbrev pub AskLaw : Type 0
+AskLaw = (limits : Limits) (rules : List Rule) (base : List Line) → IsStore (apply [] base)
+    → (m : Machine) (pass : ℕ) (query : Query) (s : State) → MachineStands rules base m → at_place m.held pass ≡ Some s
+    → IsPrefix s.history m.now.history × ((step limits rules base m (Ask pass query)).1 ≡ Rows (length s.history) (answer rules query (rebuilt rules base (lines_of s.history))))
+
+-- it publishes nothing
+abbrev pub IsNoPublish : Event → Type 0
+IsNoPublish (Publish pass stamp tag lines) = ⊥
+IsNoPublish event = Unit {0}
+
+-- an event that publishes nothing leaves the history, and every answer over the present set
+abbrev pub StayLaw : Type 0
+StayLaw = (limits : Limits) (rules : List Rule) (base : List Line) → IsStore (apply [] base) → (m : Machine) (event : Event) → IsNoPublish event → MachineStands rules base m
+    → ((step limits rules base m event).0.now.history ≡ m.now.history)
+    × ((query : Query) → answer rules query (shown (step limits rules base m event).0.now.files) ≡ answer rules query (shown m.now.files))

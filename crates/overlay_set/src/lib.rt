@@ -19,7 +19,7 @@ mod events;
 
 ghost use Rattle.overlay_set.specs.SetLaws.{AnswerLaw, FitsLaterLaw, FullLaw, JournalLaw, JournalStandsLaw, LaterChainLaw, LaterSelfLaw, NumberLaw, OpeningLaw, PlanLaw, SameAgeLaw, SettledLaw, ShapedLaw, ShownLaw, ShrinkLaw, SwapLaw};
 ghost use Rattle.overlay_set.specs.Loose.{HeadsLaw};
-ghost use Rattle.overlay_set.specs.MachineLaws.{EventsLaw, OpenedLaw, StepLaw};
+ghost use Rattle.overlay_set.specs.MachineLaws.{AskLaw, EventsLaw, OpenedLaw, SeenLaw, StayLaw, StepLaw};
 
 pub use events::{Event, Reply};
 
@@ -67,6 +67,15 @@ pub fn machines_stand()
     ensures opened { OpenedLaw }
     ensures step { StepLaw }
     ensures events { EventsLaw }
+{}
+
+/// That a machine which stands answers a question as the map made anew of its base and the history that the pass holds, with which
+/// the present history begins, as it does with all that passes have seen; and that what publishes nothing leaves the history and
+/// every answer over the present set.
+pub fn machines_answer_as_the_map_made_anew()
+    ensures seen { SeenLaw }
+    ensures asked { AskLaw }
+    ensures stays { StayLaw }
 {}
 
 /// That the heads of the files and the last hour tell which period is first to be folded or shrunk, and where its files stand.

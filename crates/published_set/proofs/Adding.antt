@@ -62,7 +62,7 @@ pub room_is : {A : Type 0} (f : A → Seen) (history : List Published) (ns : Lis
 room_is f history ns xs even =
     ap₂ (λ (m n : ℕ). nat_lt m 65536 && nat_lt n 1024) (entries_length history) (files_length ns (map f xs) (even ∙ sym (seen_length f xs)) ∙ seen_length f xs ∙ sym even)
 
-room_for : (m n : ℕ) → (nat_lt m 65536 && nat_lt n 1024) ≡ true → (m < 65536) × (n < 1024)
+pub room_for : (m n : ℕ) → (nat_lt m 65536 && nat_lt n 1024) ≡ true → (m < 65536) × (n < 1024)
 room_for m n e = go (nat_lt m 65536) refl (nat_lt n 1024) refl e
   where
     go : (a : Bool) → nat_lt m 65536 ≡ a → (b : Bool) → nat_lt n 1024 ≡ b → (a && b) ≡ true → (m < 65536) × (n < 1024)

@@ -3,3 +3,4 @@ pub mod Files
 pub mod Heads
 pub mod Adding
 pub mod Replacing
+pub mod Absorbing

@@ -1,5 +1,5 @@
 -- A file in the place of a run of files, whose numbers and images are kept apart.
-use Rattle.std.proofs.Common.{◌≡◌, ◌≢◌, ℕ, suc, zero, ◌+◌, ◌<◌, ◌≤◌, Bool, true, false, cond, ◌&&◌, ◌||◌, not, ◌==◌, List, [], ◌∷◌, ◌++◌, length, map, drop, take, find, Option, Some, None, refl, sym, ap, ap₂, subst, ◌∙◌, length-append, arith}
+use Rattle.std.proofs.Common.{◌≡◌, ◌≢◌, ℕ, suc, zero, ◌+◌, ◌<◌, ◌≤◌, Bool, true, false, cond, ◌&&◌, ◌||◌, not, ◌==◌, List, [], ◌∷◌, ◌++◌, length, map, drop, take, find, None, refl, sym, ap, ap₂, subst, ◌∙◌, length-append, arith}
 use Rattle.std.specs.List.{AllByRecursion, list_any}
 use Rattle.std.specs.Cmp.Lexicographic.{pointwise}
 use Rattle.std.proofs.lemmas.Bool.Decides.{nat_tests}
@@ -9,7 +9,7 @@ use Rattle.live_model.specs.Stores.{IsStore, apply}
 use Rattle.obf_reader.specs.Images.{Seen}
 use Rattle.overlay_set.specs.Sets.{Image, MapFile, State, age, base_image, images_of, numbers_of}
 use Rattle.overlay_set.specs.Standing.{Stands}
-use Rattle.overlay_set.specs.Swaps.{FoldPlan, Fits, Replace, applied, begins_with, common_rules, fold_image, has_number, is_run, missing, replaced}
+use Rattle.overlay_set.specs.Swaps.{FoldPlan, Fits, Replace, applied, begins_with, common_rules, fold_image, is_run, missing, replaced}
 use Rattle.overlay_set.specs.Machines.{with_fold}
 use Rattle.overlay_set.specs.SetLaws.{AreGood}
 use Rattle.overlay_set.proofs.Laws.{swaps}

@@ -1,6 +1,9 @@
 -- What a set makes of an operation, whatever it is.
-use Rattle.std.specs.Prelude.{ℕ, List, ◌+◌, ◌^◌, ◌-◌, length, Bool, ◌&&◌, nat_lt, if◌then◌else◌}
+use Rattle.std.specs.Prelude.{◌≡◌, ◌≤◌, IsTrue, ℕ, List, ◌+◌, ◌^◌, ◌-◌, length, Bool, ◌&&◌, nat_lt, if◌then◌else◌}
 use Rattle.std.specs.Arc.{arc_value}
+use Rattle.live_model.specs.declared.objects.Line.{Line}
+use Rattle.live_model.specs.declared.rules.Rule.{Rule}
+use Rattle.overlay_set.specs.Standing.{Stands}
 use Rattle.overlay_set.specs.Sets.{Image, State, age, images_of}
 use Rattle.overlay_set.specs.Swaps.{Swap, Add, Replace, applied, fold_image, replaced}
 use Rattle.published_set.specs.declared.ops.SetOp.{SetOp}
@@ -30,3 +33,12 @@ has_number_left s = nat_lt 0 (length s.files) && nat_lt (age s) (2 ^ 64 - 1)
 abbrev pub absorbed : State → Swap → State
 absorbed s (Add entry image) = if has_number_left s && has_room s then applied s (Add entry image) else s
 absorbed s (Replace plan image) = if has_number_left s then applied s (Replace plan image) else s
+
+-- there is room for what the swap brings; a fold takes none
+abbrev pub HasRoomFor : State → Swap → Type 0
+HasRoomFor s (Add entry image) = IsTrue (has_room s)
+HasRoomFor s (Replace plan image) = length s.history ≤ 65536
+
+-- in a set that stands and has room for it, what is taken in is just the swap
+abbrev pub AbsorbedLaw : Type 0
+AbsorbedLaw = (rules : List Rule) (base : List Line) (s : State) (swap : Swap) → Stands rules base s → HasRoomFor s swap → absorbed s swap ≡ applied s swap

@@ -49,7 +49,7 @@ pub fn copy_numbers(alloc: Global, numbers: &[u64], room: usize) -> Mem<Vec<u64>
     Ok(copied)
 }
 
-/// The numbers from a place up to another.
+/// The numbers from an index up to another.
 pub fn numbers_between(alloc: Global, numbers: &[u64], from: usize, to: usize) -> Mem<Vec<u64>>
     requires { (from ≤ to) × (to ≤ length numbers.now) }
     ensures { IfOk result (λ copied. copied.items ≡ slice_range numbers.now from to) }
@@ -57,7 +57,7 @@ pub fn numbers_between(alloc: Global, numbers: &[u64], from: usize, to: usize) -
     copy_numbers(alloc, &numbers[from..to], 0)
 }
 
-/// The images from a place up to another.
+/// The images from an index up to another.
 pub fn images_between(
     alloc: Global,
     images: &[Arc<Image>],

@@ -30,7 +30,7 @@ mod threads;
 pub use entry::Published;
 pub use errors::{CommitError, Missing};
 pub use image::images_stand_for_their_files;
-pub use ops::SetOp;
+pub use ops::{SetOp, operations_are_swaps};
 pub use plan::{FoldPlan, FoldWork};
 pub use set::OverlaySet;
 pub use site::FoldSite;

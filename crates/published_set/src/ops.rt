@@ -1,5 +1,7 @@
 //! Operations that every copy of a set takes in.
 
+ghost use Rattle.published_set.specs.Ops.{AbsorbedLaw};
+
 use crate::entry::Published;
 use crate::plan::FoldWork;
 use obf_reader::Image;
@@ -21,3 +23,8 @@ pub enum SetOp {
         work: FoldWork,
     },
 }
+
+/// That in a set that stands and has room for it, an operation that is taken in is just its swap. There is nothing to run.
+pub fn operations_are_swaps()
+    ensures { AbsorbedLaw }
+{}

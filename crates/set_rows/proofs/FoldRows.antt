@@ -1,10 +1,10 @@
 -- Folds of small sets: what is foldable before and after them, plans that are old, and a fold that comes too late.
-use Rattle.std.proofs.Common.{◌≡◌, ℕ, List, [], ◌∷◌, ◌++◌, refl, Some, None, true, map, nat_lt, ◌+◌, ◌/◌, ◌%◌}
+use Rattle.std.proofs.Common.{◌≡◌, ℕ, List, [], ◌∷◌, ◌++◌, refl, Some, None}
 use Rattle.live_model.specs.declared.levels.Level.TheVariants.{Day, Hour, Month}
 use Rattle.stamp_core.specs.Hours.{CivilHour, civil_hour}
 use Rattle.std.specs.List.{AllByRecursion}
 use Rattle.overlay_set.specs.Sets.{Entry, State, numbers_of, run_image}
-use Rattle.overlay_set.specs.Periods.{Period, foldable, shrinkable}
+use Rattle.overlay_set.specs.Periods.{Period, foldable}
 use Rattle.overlay_set.specs.Swaps.{Add, FoldPlan, Fits, missing, plan_of}
 use Rattle.overlay_set.specs.MachineLaws.{IsGoodEvent, MachineStands}
 use Rattle.overlay_set.proofs.Fitting.{fits_later}
@@ -12,7 +12,7 @@ use Rattle.overlay_set.proofs.Later.{later_step}
 use Rattle.overlay_set.proofs.Laws.{events}
 use Rattle.overlay_set.proofs.Planning.{plan_law}
 use Rattle.overlay_set.proofs.Stepping.{opened_law}
-use Rattle.overlay_set.specs.Machines.{Commit, Event, Machine, Plan, Publish, limits_of_a_board, machine_after, opened, with_fold}
+use Rattle.overlay_set.specs.Machines.{Commit, Event, Plan, Publish, limits_of_a_board, machine_after, opened, with_fold}
 
 abbrev at : ℕ → ℕ → ℕ → CivilHour
 at month day hour = civil_hour 2024 month day hour

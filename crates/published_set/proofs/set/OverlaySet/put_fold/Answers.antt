@@ -1,7 +1,7 @@
 use Rattle.std.proofs.Common.{◌≡◌, ℕ, ◌+◌, ◌<◌, ◌≤◌, List, ◌++◌, ◌∷◌, drop, length, map, take, sym, ap, ap₂, subst, ◌∙◌, arith}
 use Rattle.std.proofs.lemmas.Bool.Decides.{nat_tests}
 use Rattle.std.specs.Arc.{arc_value}
-use Rattle.overlay_set.specs.Sets.{MapFile, State, age}
+use Rattle.overlay_set.specs.Sets.{MapFile, age}
 use Rattle.overlay_set.specs.Swaps.{replaced}
 use Rattle.published_set.specs.Images.{image_of}
 use Rattle.published_set.specs.Ops.{with_file}

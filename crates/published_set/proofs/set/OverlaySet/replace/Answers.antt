@@ -1,6 +1,6 @@
 use Rattle.std.proofs.Common.{◌≡◌, Some, None, List, ℕ, map, refl, sym, ap, ap₂, subst, ◌∙◌}
 use Rattle.std.specs.Arc.{arc_value}
-use Rattle.overlay_set.specs.Sets.{Image, State, numbers_of}
+use Rattle.overlay_set.specs.Sets.{Image, numbers_of}
 use Rattle.overlay_set.specs.Swaps.{FoldPlan, missing}
 use Rattle.published_set.specs.Ops.{with_file}
 use Rattle.published_set.specs.Runs.{first_missing}
