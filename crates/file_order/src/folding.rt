@@ -34,12 +34,7 @@ pub fn can_fold<F: Ordered>(files: &[F], level: Level) -> Result<(), NotRun>
 }
 
 /// Why a file cannot become one with the first, after files that end at this hour: the least kind.
-fn kind_in<F: Ordered>(
-    level: Level,
-    first: &F,
-    last: Option<Stamp>,
-    file: &F,
-) -> Option<RunKind>
+fn kind_in<F: Ordered>(level: Level, first: &F, last: Option<Stamp>, file: &F) -> Option<RunKind>
     ensures { (index : ℕ) → first_failing (part_asked level index (record { head = F.head_of first.now; rules = F.rules_of first.now }) last (record { head = F.head_of file.now; rules = F.rules_of file.now }))
         ≡ option_map (told_at index) result }
 {
