@@ -7,7 +7,7 @@ use Rattle.file_order.specs.declared.kinds.RunKind.{RunKind}
 use Rattle.file_order.specs.Runs.{Asked, Placed, all_asked, first_failing, is_base, later_asked, not_run, told_at}
 
 -- where all hold, the others are asked
-passed : (xs ys : List Asked) → first_failing xs ≡ None → first_failing (xs ++ ys) ≡ first_failing ys
+pub passed : (xs ys : List Asked) → first_failing xs ≡ None → first_failing (xs ++ ys) ≡ first_failing ys
 passed [] ys e = refl
 passed (x ∷ xs) ys e = one x.holds refl e (passed xs ys)
   where
@@ -17,7 +17,7 @@ passed (x ∷ xs) ys e = one x.holds refl e (passed xs ys)
     one false h e on = absurd cc
 
 -- where one fails, it is told
-failed : (xs ys : List Asked) (told : NotRun) → first_failing xs ≡ Some told → first_failing (xs ++ ys) ≡ Some told
+pub failed : (xs ys : List Asked) (told : NotRun) → first_failing xs ≡ Some told → first_failing (xs ++ ys) ≡ Some told
 failed [] ys told e = absurd cc
 failed (x ∷ xs) ys told e = one x.holds refl e (failed xs ys told)
   where

@@ -95,7 +95,7 @@ fn not_base() -> NotRun
 }
 
 /// Whether the file is a base.
-fn is_base<F: Ordered>(file: &F) -> bool
+pub(crate) fn is_base<F: Ordered>(file: &F) -> bool
     ensures { result ≡ is_base (record { head = F.head_of file.now; rules = F.rules_of file.now }) }
 {
     file.head().level.number() == 0
@@ -119,7 +119,7 @@ fn kind_after<F: Ordered>(first: &F, before: &F, file: &F) -> Option<RunKind>
 }
 
 /// Whether an hour is after another, where both are there.
-fn is_after(last: Option<Stamp>, first: Option<Stamp>) -> bool
+pub(crate) fn is_after(last: Option<Stamp>, first: Option<Stamp>) -> bool
     ensures { result ≡ is_after last first }
 {
     match (last, first) {

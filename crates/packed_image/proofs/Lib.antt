@@ -1,0 +1,4 @@
+pub mod SoundSections
+pub mod HeldParts
+pub mod SameHeads
+pub mod PackedImages
