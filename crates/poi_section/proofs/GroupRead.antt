@@ -74,7 +74,7 @@ one_read : (beside : Beside) (bytes : List ℕ) (kept : GroupKept) (group : Grou
 one_read beside bytes kept group few k =
     ap (λ (section : InBoxes PoiRec). record { category = category_in bytes kept; section = section })
     (section_boxed Poi poi_boxing poi_read id_of poi_is_read (category_in bytes kept) (part_of bytes kept.records.from kept.records.to) kept.kept k.section.fields
-        (record { beside = beside; few = few; is = k.section }) k.section.read)
+    (record { beside = beside; few = few; is = k.section }) k.section.read)
     ∙ ap (λ (section : Section). group_read (record group { section = section; category = record group.category { value = category_in bytes kept } })) k.is
     ∙ ap (λ (text : List ℕ). group_read (record group { category = record group.category { value = text } })) k.category
 

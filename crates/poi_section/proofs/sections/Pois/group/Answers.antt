@@ -21,8 +21,8 @@ returns-in-Some c =
     let p = c.self.inside in
     rw (← c.self.view_is)
     (ap (option_map (λ (g : GroupRead). g.section))
-        (slice_get-map (group_kept p.window.bytes.now) p.kept.now.groups.items c.args.index
-        ∙ ap (option_map (group_kept p.window.bytes.now)) (ap (λ (groups : List GroupKept). slice_get groups c.args.index) (sym c.groups.ensures) ∙ c.in-Some.ensures))
+    (slice_get-map (group_kept p.window.bytes.now) p.kept.now.groups.items c.args.index
+    ∙ ap (option_map (group_kept p.window.bytes.now)) (ap (λ (groups : List GroupKept). slice_get groups c.args.index) (sym c.groups.ensures) ∙ c.in-Some.ensures))
     ∙ ap (λ (section : InBoxes PoiRec). Some section) (sym c.section_of.ensures))
 
 pub returns-in-None : goal.returns-in-None
