@@ -38,7 +38,7 @@ steps_from before (n ∷ ns) = (n - before) ∷ steps_from n ns
 abbrev pub marks_bytes : List ℕ → List ℕ
 marks_bytes marks = short_field 1 (flat_map varint (steps_from 0 marks))
 
--- the sections of records, each of its class behind its length
+-- the sections of records, each after its length
 abbrev pub packed_sections : List Rec → List ℕ
 packed_sections records =
     section 6 (packed_map (maps_in records)) ++ section 7 (packed_addresses (addresses_in records)) ++ section 8 (packed_pois (pois_in records))

@@ -92,7 +92,7 @@ fn roads_bytes(alloc: Global, roads: &[&RoadRec], bans: &[&BanRec], rules: &Rule
     Ok(out)
 }
 
-/// Appends the sections, each behind its length.
+/// Appends the sections, each after its length.
 pub(crate) fn put_sections(sections: &Sections, out: &mut Out) -> Mem<()>
     ensures { OnOk result (out.new ≡ out.old ++ section 6 sections.now.map.items ++ section 7 sections.now.addresses.items ++ section 8 sections.now.pois.items ++ section 9 sections.now.roads.items) }
 {

@@ -96,7 +96,7 @@ foldable s = find (λ p. not (is_one_of_level p.level (files_in p s.files))) (pe
 abbrev pub shrinkable : State → Option Period
 shrinkable s = find (λ p. nat_le 2 (length (files_in p s.files))) (periods s.history)
 
--- where the files of a period stand among all: the place of the first, and the place behind the last
+-- where the files of a period stand among all: the index of the first, and the index after the last
 abbrev pub places_of : Period → List MapFile → ℕ × ℕ
 places_of p files =
     (length (take_while (λ f. not (is_file_of p f)) files), length (take_while (λ f. not (is_file_of p f)) files) + length (files_in p files))
