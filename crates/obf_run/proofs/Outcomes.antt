@@ -11,7 +11,7 @@ use Rattle.stamp_core.specs.Heads.{IsGoodHead}
 use Rattle.stamp_core.specs.Hours.{IsCivilHour}
 use Rattle.stamp_core.specs.declared.head.Head.{Head}
 use Rattle.outside.specs.Files.{FilesState}
-use Rattle.run_model.specs.FileLines.{file_line}
+use Rattle.file_lines.specs.FileLines.{file_line}
 use Rattle.run_model.specs.Inputs.{input, map_file, object_text, rule_table}
 use Rattle.run_model.specs.Jobs.{IsChecked, IsPacked, IsStoreOf, Outcome, base_parts, prints, task_of}
 use Rattle.run_model.specs.Reads.{HasRead}

@@ -4,4 +4,4 @@ pub mod Keeping
 pub mod Completion
 pub mod Runs
 pub mod OneOutcome
-pub mod NamedHours
+pub mod AskedChanges

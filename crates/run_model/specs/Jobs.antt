@@ -18,7 +18,7 @@ use Rattle.file_grammar.specs.declared.parts.Version.{Version}
 use Rattle.file_grammar.specs.Files.{IsFile, head_numbers}
 use Rattle.obf_writer.specs.PackedFile.{IsPackedFile}
 use Rattle.run_model.specs.Requests.{Asked, nodes, dump, build, change_map, check}
-use Rattle.run_model.specs.FileLines.{file_line}
+use Rattle.file_lines.specs.FileLines.{file_line}
 use Rattle.run_model.specs.Inputs.{Misfit, Plan, files_named, misfit_in, output_of, plan_of}
 
 -- what is printed, and the bytes of the file that is written, where one is

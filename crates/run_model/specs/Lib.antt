@@ -1,7 +1,5 @@
-pub mod HourWords
 pub mod Requests
 pub mod Inputs
-pub mod FileLines
 pub mod Jobs
 pub mod Endings
 pub mod Reads

@@ -5,7 +5,7 @@ use Rattle.std.specs.Str.{bytes_eq}
 use Rattle.live_model.specs.declared.points.Rect.{Rect}
 use Rattle.live_model.specs.Points.{rect_of}
 use Rattle.stamp_core.specs.Hours.{CivilHour}
-use Rattle.run_model.specs.HourWords.{hour_of}
+use Rattle.hour_words.specs.HourWords.{hour_of}
 use Rattle.run_model.specs.declared.request.Request.{Request}
 use Rattle.run_model.specs.declared.request.Request.TheVariants as request
 use Rattle.run_model.specs.declared.request.Verb.{Verb}

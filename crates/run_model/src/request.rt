@@ -1,9 +1,9 @@
 //! The words that the program takes.
 
 ghost use Rattle.std.specs.Prelude.{◌≡◌, Some, None, MatchOption};
-ghost use Rattle.run_model.specs.HourWords.{hour_of};
 ghost use Rattle.run_model.specs.Requests.{asked, asked_by, asked_change, asked_with, verb_of};
 
+use hour_words::read_hour;
 use live_model::{Rect, Text};
 use stamp_core::Stamp;
 
@@ -143,11 +143,4 @@ fn read_change<'a>(
         earlier,
         last,
     })
-}
-
-/// The hour that a word names. `None` exactly where it names none.
-fn read_hour(word: &str) -> Option<Stamp>
-    ensures { result ≡ hour_of word.now }
-{
-    Stamp::parse(word)
 }

@@ -69,7 +69,7 @@ use Rattle.run_model.specs.declared.breaks.Break.TheVariants.{InRules, InObjects
 use Rattle.run_model.specs.Requests.{Asked, asked_by, nodes, dump, build, check}
 use Rattle.file_order.specs.declared.kinds.RunKind.TheVariants as kind
 use Rattle.run_model.specs.Inputs.{Input, Misfit, Plan, input, in_turn, plan_of, output_of, break_in, break_text, no_more, reads, rule_table, object_text, map_file}
-use Rattle.run_model.specs.FileLines.{file_line}
+use Rattle.file_lines.specs.FileLines.{file_line}
 use Rattle.run_model.specs.Jobs.{IsStoreOf, Job, Outcome, Task, base_head, prints, task_of}
 use Rattle.run_model.specs.Endings.{Ending, done, bad_words, too_many_files, misfit, refused, read_fault, write_fault, answer_fault, no_memory, over_limit, code_of, ending_line}
 use Rattle.run_model.specs.Reads.{limit, ReadsBroken, ReadsGood, ReadInOrder, EndsAmong}
