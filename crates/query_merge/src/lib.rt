@@ -7,8 +7,12 @@
 //! history over the map of its base answer as the map made anew; and records each of which gives some rows become exactly these.
 #![tactic(auto)]
 
+mod asking;
+mod finding;
+mod hits;
 mod laws;
 mod rows;
 
+pub use asking::ask;
 pub use laws::{histories_answer_as_the_map_made_anew, hits_are_sorted_once};
 pub use rows::rows_of;
