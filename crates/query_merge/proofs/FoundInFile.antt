@@ -1,5 +1,5 @@
 -- What the cursors over an image find is what gives rows, and the blocks that are due to them are those of its file.
-use Rattle.std.proofs.Common.{◌≡◌, ◌+◌, ℕ, Bool, true, false, List, [], ◌∷◌, ◌++◌, length, map, not, Option, Some, None, Result, Ok, refl, sym, ap, ◌∙◌, subst, inl, inr}
+use Rattle.std.proofs.Common.{◌≡◌, ◌+◌, ℕ, Bool, true, false, List, [], ◌∷◌, ◌++◌, length, map, not, Option, Some, Result, Ok, refl, sym, ap, ◌∙◌, inl, inr}
 use Rattle.std.specs.Prelude.{filter, flat_map, bytes_eq, sum}
 use Rattle.std.proofs.lemmas.Bool.{cases_Bool}
 use Rattle.std.proofs.lemmas.List.{append-nil, length-map}
@@ -17,14 +17,13 @@ use Rattle.live_model.specs.declared.records.Rec.TheVariants.{Map, Poi, Addr, Ro
 use Rattle.live_model.specs.declared.records.RoadRec.{RoadRec}
 use Rattle.live_model.specs.declared.rows.Row.{Row}
 use Rattle.live_model.specs.declared.rows.Row.TheVariants.{Addr as AddrRow}
-use Rattle.live_model.specs.declared.rules.Rule.{Rule}
 use Rattle.live_model.specs.Maps.{begins_with, is_house_of, row_if, rows}
 use Rattle.obf_wire.specs.declared.file.FileBreak.{FileBreak}
 use Rattle.file_grammar.specs.declared.parts.Boxed.TheVariants.{Map as MapPart}
 use Rattle.file_grammar.specs.declared.parts.Part.TheVariants.{Addresses as AddressesPart, Boxes, Pois, Routing}
 use Rattle.file_grammar.specs.declared.parts.Version.{Version}
 use Rattle.file_grammar.specs.AddressRules.{address_records_in, addresses_of}
-use Rattle.file_grammar.specs.Files.{FileParts, file_in, section_records}
+use Rattle.file_grammar.specs.Files.{FileParts}
 use Rattle.file_grammar.specs.MapRules.{map_records_in}
 use Rattle.file_grammar.specs.Messages.{Fields}
 use Rattle.file_grammar.specs.PoiRules.{Group, group_records, groups_in}
@@ -38,7 +37,6 @@ use Rattle.addr_read.specs.Finding.{due_blocks, has_prefix, has_street}
 use Rattle.addr_read.specs.Records.{address_blocks}
 use Rattle.map_laws.specs.Laws.{gives_rows, is_nil}
 use Rattle.obf_reader.specs.Images.{IsImage, Seen, addresses_window, bans_of, groups_of, map_window, maps_of, pois_window, roads_of, routing_window}
-use Rattle.obf_reader.specs.Spread.{read_file}
 use Rattle.image_hits.specs.Hits.{are_some, ban_hits, due_in as due_to, map_hits, poi_hits, road_hits}
 use Rattle.query_merge.specs.Gathering.{found_in, stored_in}
 use Rattle.query_merge.specs.Hits.{addresses_left}

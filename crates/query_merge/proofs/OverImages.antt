@@ -15,7 +15,7 @@ use Rattle.live_model.specs.MapLaws.{AreInOrder}
 use Rattle.live_model.specs.Rules.{rule_lines, rules_text, spelled_rules}
 use Rattle.file_grammar.specs.Files.{FileParts, rules_in, section_records}
 use Rattle.file_order.specs.declared.kinds.NotRun.{NotRun}
-use Rattle.file_order.specs.Runs.{Asked, Placed, all_asked, first_failing, not_run}
+use Rattle.file_order.specs.Runs.{Placed, all_asked, first_failing, not_run}
 use Rattle.map_laws.specs.Laws.{gives_rows, untouched_by}
 use Rattle.map_laws.proofs.InOrder.{all_ordered, filter_in_order, ordered_twice}
 use Rattle.obf_reader.specs.Images.{IsImage, Seen}

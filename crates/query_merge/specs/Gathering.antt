@@ -1,5 +1,5 @@
 -- What is gathered for a question over several images.
-use Rattle.std.specs.Prelude.{◌≡◌, ℕ, List, [], ◌∷◌, ◌++◌, filter, map, Option, Some, None}
+use Rattle.std.specs.Prelude.{ℕ, List, [], ◌∷◌, ◌++◌, filter, map, Option, Some, None}
 use Rattle.name_fold.specs.Keys.{key}
 use Rattle.live_model.specs.declared.queries.Query.{Query}
 use Rattle.live_model.specs.declared.queries.Query.TheVariants.{Prefix, Street}

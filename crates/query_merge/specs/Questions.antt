@@ -1,5 +1,5 @@
 -- What a question finds in map files that lie over one another, and how many of their blocks it may read.
-use Rattle.std.specs.Prelude.{◌≡◌, ℕ, ◌+◌, List, [], ◌∷◌, bytes_eq, filter, length, map, false, sum, true, Option, Some, None, Result, Ok, Err}
+use Rattle.std.specs.Prelude.{ℕ, ◌+◌, List, [], ◌∷◌, bytes_eq, filter, length, map, false, sum, true, Option, Some, None, Result, Ok, Err}
 use Rattle.name_fold.specs.Keys.{key}
 use Rattle.live_model.specs.declared.queries.Query.{Query}
 use Rattle.live_model.specs.declared.queries.Query.TheVariants.{View, Category, Prefix, Street, Roads}

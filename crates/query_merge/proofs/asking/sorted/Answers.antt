@@ -1,5 +1,4 @@
 use Rattle.std.proofs.Common.{rules}
-use Rattle.std.specs.List.Sorted.{IsSortedBy}
 use Rattle.std.proofs.lemmas.List.MinMax.{ranks_by}
 use Rattle.std.proofs.lemmas.List.Sorted.{answers_always}
 use Rattle.live_model.specs.declared.records.Rec.{Rec}
