@@ -1,2 +1,5 @@
+pub mod Gathering
+pub mod Hits
 pub mod Laws
+pub mod Questions
 pub mod Rows

@@ -1,0 +1,66 @@
+-- What a question finds in map files that lie over one another, and how many of their blocks it may read.
+use Rattle.std.specs.Prelude.{ℕ, ◌+◌, List, [], ◌∷◌, bytes_eq, filter, length, map, false, sum, true, Option, Some, None, Result, Ok, Err}
+use Rattle.name_fold.specs.Keys.{key}
+use Rattle.live_model.specs.declared.queries.Query.{Query}
+use Rattle.live_model.specs.declared.queries.Query.TheVariants.{View, Category, Prefix, Street, Roads}
+use Rattle.live_model.specs.declared.records.Rec.{Rec}
+use Rattle.live_model.specs.declared.rows.Row.{Row}
+use Rattle.live_model.specs.Maps.{Overlay, answer, laid}
+use Rattle.obf_wire.specs.declared.file.FileBreak.{FileBreak}
+use Rattle.file_grammar.specs.AddressRules.{addresses_of}
+use Rattle.file_grammar.specs.Files.{FileParts, file_in, file_records}
+use Rattle.file_grammar.specs.Messages.{Fields}
+use Rattle.file_grammar.specs.PoiRules.{groups_in}
+use Rattle.file_grammar.specs.RoadRules.{routing_in}
+use Rattle.file_grammar.specs.Sections.{object_of, section_in}
+use Rattle.addr_read.specs.Finding.{due_blocks}
+use Rattle.addr_read.specs.Records.{address_blocks}
+use Rattle.obf_reader.specs.Images.{Seen}
+use Rattle.obf_reader.specs.Spread.{read_file}
+use Rattle.image_hits.specs.Hits.{due_in as due_to}
+
+-- Files.
+
+-- of a file of good form, which always has its parts
+abbrev pub parts_read : Result Fields FileBreak → Option FileParts
+parts_read (Ok fields) = file_in fields
+parts_read (Err b) = None
+
+-- the parts of the file that an image is
+unfoldable pub parts_of : Seen → Option FileParts
+parts_of image = parts_read (read_file image.bytes)
+
+-- the records of a file, in order
+abbrev pub records_in : Option FileParts → List Rec
+records_in None = []
+records_in (Some parts) = file_records parts
+
+-- the records of an image, in order
+abbrev pub records_of : Seen → List Rec
+records_of image = records_in (parts_of image)
+
+-- an image as it lies over others: the objects that it marks, and its records
+abbrev pub overlay_of : Seen → Overlay
+overlay_of image = record { marks = map object_of image.marks; records = records_of image }
+
+-- the rows of a question over the records of the first image, with the others laid over them in order
+abbrev pub answer_over : Query → List Seen → List Row
+answer_over query [] = []
+answer_over query (base ∷ images) = answer base.rules query (laid (records_of base) (map overlay_of images))
+
+-- What it costs.
+
+-- how many blocks of a file are due: those of a section whose leaf has a box that meets the rectangle, for a category those of its groups;
+-- and those whose first and last key allow what is looked for
+abbrev pub due_in : Query → Option FileParts → ℕ
+due_in query None = 0
+due_in (View rect zoom) (Some parts) = due_to rect (section_in parts.map)
+due_in (Category category rect) (Some parts) = sum (map (λ g. due_to rect g.section) (filter (λ g. bytes_eq g.category.value category) (groups_in parts.pois)))
+due_in (Prefix text) (Some parts) = length (due_blocks false (key text) (address_blocks (addresses_of parts.addresses)))
+due_in (Street text) (Some parts) = length (due_blocks true (key text) (address_blocks (addresses_of parts.addresses)))
+due_in (Roads rect) (Some parts) = due_to rect (routing_in parts.roads).roads + due_to rect (routing_in parts.roads).bans
+
+-- those of all images
+abbrev pub due_over : Query → List Seen → ℕ
+due_over query [] = 0
+due_over query (image ∷ images) = due_in query (parts_of image) + due_over query images
