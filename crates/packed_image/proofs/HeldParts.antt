@@ -1,19 +1,17 @@
 -- What an image holds can be packed.
-use Rattle.std.proofs.Common.{◌≡◌, ◌≢◌, ◌≤◌, ℕ, Bool, true, false, List, [], ◌∷◌, map, length, Option, Some, None, Ok, refl, sym, ap, subst, ◌∙◌, ap₂, arith}
-use Rattle.std.specs.Prelude.{◌&&◌, ◌||◌, ◌==◌, not, if◌then◌else◌, unwrap_or, IsTrue}
+use Rattle.std.proofs.Common.{◌≡◌, ◌≢◌, ◌≤◌, ℕ, Bool, true, false, List, [], ◌∷◌, map, length, Option, Some, None, refl, sym, ap, subst, ◌∙◌, ap₂, arith}
+use Rattle.std.specs.Prelude.{◌||◌, ◌==◌, not, if◌then◌else◌, unwrap_or, IsTrue}
 use Rattle.std.specs.List.{AllByRecursion, list_all, list_any}
 use Rattle.std.specs.Ordering.{nat_cmp}
 use Rattle.std.specs.declared.cmp.Ordering.TheVariants.{Less}
-use Rattle.std.proofs.lemmas.Bool.{and_from, and_parts, eqb-false, eqb-true}
+use Rattle.std.proofs.lemmas.Bool.{and_from, and_parts, eqb-true}
 use Rattle.live_model.specs.declared.levels.Level.{Level}
 use Rattle.live_model.specs.declared.levels.Level.TheVariants.{Base, Hour, Day, Month}
-use Rattle.live_model.specs.declared.records.Rec.{Rec}
 use Rattle.live_model.specs.declared.rules.Rule.{Rule}
 use Rattle.live_model.specs.Fits.{Fits, FitsAddress, FitsRules}
 use Rattle.live_model.specs.Ids.{Id, IsId, ordinal}
 use Rattle.live_model.specs.Levels.{level_number}
 use Rattle.live_model.specs.Maps.{in_order, is_mark}
-use Rattle.live_model.specs.MapLaws.{IsOverlay}
 use Rattle.live_model.specs.Records.{record_id}
 use Rattle.live_model.specs.Rules.{IsRule}
 use Rattle.ordered_lists.specs.Ordered.{IsRisingBy}
@@ -22,7 +20,7 @@ use Rattle.map_laws.proofs.InOrder.{all_ordered, ordered_twice}
 use Rattle.file_grammar.specs.AddressRules.{address_records_in, addresses_of}
 use Rattle.file_grammar.specs.BoxRules.{is_ordinal}
 use Rattle.file_grammar.specs.Facts.{AllHold, first_failing}
-use Rattle.file_grammar.specs.Files.{FileParts, HeadNumbers, IsFile, beside, break_in_file, facts_in, file_facts, file_in, file_records, head_numbers, marks_beside, rise_strictly, rules_in, section_records, sections_facts, version_of, whole}
+use Rattle.file_grammar.specs.Files.{FileParts, HeadNumbers, IsFile, beside, break_in_file, facts_in, file_facts, file_in, file_records, head_numbers, marks_beside, rise_strictly, section_records, version_of, whole}
 use Rattle.file_grammar.specs.Messages.{Fields, IsMessage}
 use Rattle.file_grammar.specs.declared.parts.Version.{Version}
 use Rattle.file_grammar.specs.Readings.{IsInMemory}
@@ -32,7 +30,6 @@ use Rattle.file_grammar.proofs.ReadIsSpelled.{read_is_spelled}
 use Rattle.boxed_laws.proofs.ObjectNumbers.{object_good, ordinal_again}
 use Rattle.addr_section.proofs.Fitting.{fitting as addresses_fit}
 use Rattle.obf_reader.specs.Images.{IsImage, Seen, addresses_window}
-use Rattle.obf_reader.specs.Spread.{read_file}
 use Rattle.file_grammar.proofs.Earlier.{one_first_break_law}
 use Rattle.packed_image.specs.Overlays.{HoldsParts, overlay_of, records_in, records_of, records_read}
 use Rattle.packed_image.proofs.SoundSections.{HasMark, IsSound, sections_sound}

@@ -5,7 +5,6 @@ use Rattle.std.specs.List.{AllByRecursion}
 use Rattle.live_model.specs.declared.records.Rec.{Rec}
 use Rattle.live_model.specs.declared.rules.Rule.{Rule}
 use Rattle.live_model.specs.Ids.{Id, IsId, ordinal}
-use Rattle.live_model.specs.Maps.{Overlay}
 use Rattle.stamp_core.specs.Hours.{IsCivilHour}
 use Rattle.stamp_core.specs.declared.head.Head.{Head}
 use Rattle.file_grammar.specs.Files.{IsSomeFile, file_break, file_records, head_numbers, whole}
@@ -19,7 +18,7 @@ use Rattle.boxed_exact.specs.Breaks.{Breaks}
 use Rattle.boxed_laws.proofs.ObjectNumbers.{object_again}
 use Rattle.obf_reader.specs.Images.{IsImage, IsImageFile, Seen}
 use Rattle.obf_writer.specs.PackedFile.{IsPackedFile}
-use Rattle.packed_image.specs.Overlays.{overlay_of, records_in}
+use Rattle.packed_image.specs.Overlays.{records_in}
 use Rattle.packed_image.specs.Packed.{IsImageOfParts}
 use Rattle.packed_image.proofs.HeldParts.{file_there, records_are}
 use Rattle.packed_image.proofs.SameHeads.{same_head}

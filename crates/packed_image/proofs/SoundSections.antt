@@ -10,10 +10,9 @@ use Rattle.live_model.specs.declared.records.PoiRec.{PoiRec}
 use Rattle.live_model.specs.declared.records.Rec.{Rec}
 use Rattle.live_model.specs.declared.records.Rec.TheVariants.{Map, Poi, Addr, Road, Ban}
 use Rattle.live_model.specs.declared.records.RoadRec.{RoadRec}
-use Rattle.live_model.specs.Fits.{Fits, FitsAddress, FitsMap, FitsRoad}
+use Rattle.live_model.specs.Fits.{Fits, FitsAddress}
 use Rattle.live_model.specs.Ids.{Id, ordinal}
 use Rattle.live_model.specs.Records.{record_id}
-use Rattle.live_model.specs.Rules.{is_category}
 use Rattle.file_grammar.specs.AddressRules.{Address, Addresses, KeyedList, address_facts, address_record_of, address_records_in, addresses_facts, addresses_in, addresses_of, entry_facts, entry_pairs, first_at, keyed_block_fact, keyed_facts, list_records}
 use Rattle.file_grammar.specs.BoxRules.{Beside, Boxing, block_facts, is_marked, is_ordinal, section_facts, text_fact, with_before}
 use Rattle.file_grammar.specs.Facts.{AllHold, Fact}
@@ -22,7 +21,7 @@ use Rattle.file_grammar.specs.Listed.{block_records, records_in}
 use Rattle.file_grammar.specs.MapRules.{map_boxing, map_read, map_records_in}
 use Rattle.file_grammar.specs.Messages.{Fields}
 use Rattle.file_grammar.specs.PoiRules.{Group, group_facts, group_records, groups_facts, groups_in, poi_boxing, poi_read, poi_records_in}
-use Rattle.file_grammar.specs.RoadRules.{ban_boxing, ban_read, bans_in, road_boxing, road_read, roads_in, routing_facts, routing_in}
+use Rattle.file_grammar.specs.RoadRules.{ban_boxing, ban_read, bans_in, road_boxing, road_read, roads_in, routing_in}
 use Rattle.file_grammar.specs.Sections.{Block, Entry, Section, object_of, section_in}
 use Rattle.boxed_laws.specs.Classes.{PassUtf8}
 use Rattle.boxed_laws.proofs.BlockTexts.{all_join}

@@ -3,7 +3,6 @@ use Rattle.std.specs.Prelude.{◌≡◌, ◌≢◌, ◌≤◌, ℕ, List, [], le
 use Rattle.std.specs.List.{AllByRecursion}
 use Rattle.live_model.specs.declared.levels.Level.TheVariants.{Base}
 use Rattle.live_model.specs.declared.records.Rec.{Rec}
-use Rattle.live_model.specs.declared.rules.Rule.{Rule}
 use Rattle.live_model.specs.Fits.{FitsRules}
 use Rattle.live_model.specs.Ids.{ordinal}
 use Rattle.live_model.specs.Maps.{Overlay}

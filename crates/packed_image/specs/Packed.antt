@@ -1,9 +1,8 @@
 -- The image of parts.
-use Rattle.std.specs.Prelude.{◌≡◌, ℕ, List, length, map}
+use Rattle.std.specs.Prelude.{◌≡◌, List, length, map}
 use Rattle.live_model.specs.declared.records.Rec.{Rec}
 use Rattle.live_model.specs.declared.rules.Rule.{Rule}
 use Rattle.live_model.specs.Ids.{Id, ordinal}
-use Rattle.live_model.specs.Maps.{Overlay}
 use Rattle.stamp_core.specs.declared.head.Head.{Head}
 use Rattle.file_grammar.specs.Files.{head_numbers}
 use Rattle.file_grammar.specs.declared.parts.Version.TheVariants.{Two}
