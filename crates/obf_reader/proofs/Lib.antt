@@ -4,6 +4,7 @@ pub mod HeadNumbers
 pub mod Hours
 pub mod Images
 pub mod MarkLists
+pub mod Overlays
 pub mod NumberLists
 pub mod RuleTexts
 pub mod Spread

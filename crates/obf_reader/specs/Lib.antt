@@ -2,6 +2,7 @@ pub mod Heads
 pub mod Images
 pub mod Kept
 pub mod MarkLists
+pub mod Overlays
 pub mod Parts
 pub mod Spread
 pub mod Tops

@@ -30,8 +30,10 @@ use Rattle.file_grammar.proofs.ReadIsSpelled.{read_is_spelled}
 use Rattle.boxed_laws.proofs.ObjectNumbers.{object_good, ordinal_again}
 use Rattle.addr_section.proofs.Fitting.{fitting as addresses_fit}
 use Rattle.obf_reader.specs.Images.{IsImage, Seen, addresses_window}
+use Rattle.obf_reader.specs.Overlays.{overlay_of, records_in}
+use Rattle.obf_reader.proofs.Overlays.{records_are}
 use Rattle.file_grammar.proofs.Earlier.{one_first_break_law}
-use Rattle.packed_image.specs.Overlays.{HoldsParts, overlay_of, records_in, records_of, records_read}
+use Rattle.packed_image.specs.Overlays.{HoldsParts}
 use Rattle.packed_image.proofs.SoundSections.{HasMark, IsSound, sections_sound}
 
 -- ---- marks
@@ -115,10 +117,8 @@ module _ (image : Seen) (i : IsImage image) (memory : IsInMemory (whole image.by
         records_are = refl;
       }
 
-  -- the records are those that are found by reading the bytes
-  pub records_are : records_in image.bytes ≡ file_records i.holds.parts
-  unfolding records_in
-  records_are = ap records_read i.holds.form ∙ ap records_of i.holds.are
+  its_records : records_in image.bytes ≡ file_records i.holds.parts
+  its_records = records_are image i
 
   its_rules : (beside parts).rules ≡ image.rules
   its_rules = ap (λ (o : Option (List Rule)). unwrap_or o []) i.holds.rules
@@ -142,7 +142,7 @@ module _ (image : Seen) (i : IsImage image) (memory : IsInMemory (whole image.by
   all_sound = sections_sound (beside parts) parts its_addresses all_facts.1.1.1.1.1.1
 
   its_sound : AllByRecursion (IsSound (beside parts)) (records_in image.bytes)
-  its_sound = subst (AllByRecursion (IsSound (beside parts))) (sym records_are) (all_ordered (IsSound (beside parts)) (section_records parts) all_sound)
+  its_sound = subst (AllByRecursion (IsSound (beside parts))) (sym its_records) (all_ordered (IsSound (beside parts)) (section_records parts) all_sound)
 
   its_fit : FitsRules image.rules (records_in image.bytes)
   its_fit = subst (λ (rules : List Rule). FitsRules rules (records_in image.bytes)) its_rules (all_map (IsSound (beside parts)) (Fits (beside parts).rules) (records_in image.bytes) (λ r s. s.0) its_sound)
@@ -170,7 +170,7 @@ module _ (image : Seen) (i : IsImage image) (memory : IsInMemory (whole image.by
     above = λ above. record {
       ids = objects_good image.marks i.marks.0;
       rising = risen (map object_of image.marks) (subst (IsRisingBy nat_cmp (λ n. n)) (sym (ordinals_at image.marks i.marks.0)) i.marks.1);
-      ordered = ap in_order records_are ∙ ordered_twice (section_records parts) ∙ sym records_are;
+      ordered = ap in_order its_records ∙ ordered_twice (section_records parts) ∙ sym its_records;
       marked = its_marked above;
     };
     fit = its_fit;

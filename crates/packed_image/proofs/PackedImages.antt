@@ -17,10 +17,11 @@ use Rattle.obf_wire.specs.declared.file.FileError.TheVariants.{Broken}
 use Rattle.boxed_exact.specs.Breaks.{Breaks}
 use Rattle.boxed_laws.proofs.ObjectNumbers.{object_again}
 use Rattle.obf_reader.specs.Images.{IsImage, IsImageFile, Seen}
+use Rattle.obf_reader.specs.Overlays.{records_in}
+use Rattle.obf_reader.proofs.Overlays.{records_are}
 use Rattle.obf_writer.specs.PackedFile.{IsPackedFile}
-use Rattle.packed_image.specs.Overlays.{records_in}
 use Rattle.packed_image.specs.Packed.{IsImageOfParts}
-use Rattle.packed_image.proofs.HeldParts.{file_there, records_are}
+use Rattle.packed_image.proofs.HeldParts.{file_there}
 use Rattle.packed_image.proofs.SameHeads.{same_head}
 
 -- the hours of a head, where it has any, are hours of the calendar
@@ -44,7 +45,7 @@ image_of_parts image bytes head rules marks records is given i f memory own civi
     let same = one_parts_law image.bytes image.version Two (head_numbers image.head) (head_numbers head) image.rules rules image.marks (map ordinal marks) (file_records i.holds.parts) records memory (file_there image i memory) packed.file in
     let counted = one_parts_law image.bytes image.version Two (head_numbers image.head) (head_numbers head) image.rules rules image.marks (map ordinal marks) f.records records memory f.file packed.file in
     let marks_are : map object_of image.marks ≡ marks = ap (map object_of) same.3 ∙ ids_again marks ids in
-    let records_are_these : records_in image.bytes ≡ records = records_are image i memory ∙ same.4 in
+    let records_are_these : records_in image.bytes ≡ records = records_are image i ∙ same.4 in
     record {
       packed = packed;
       version = same.0;

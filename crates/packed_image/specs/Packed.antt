@@ -7,8 +7,8 @@ use Rattle.stamp_core.specs.declared.head.Head.{Head}
 use Rattle.file_grammar.specs.Files.{head_numbers}
 use Rattle.file_grammar.specs.declared.parts.Version.TheVariants.{Two}
 use Rattle.obf_reader.specs.Images.{Seen}
+use Rattle.obf_reader.specs.Overlays.{overlay_of}
 use Rattle.obf_writer.specs.PackedFile.{IsPackedFile}
-use Rattle.packed_image.specs.Overlays.{overlay_of}
 
 -- the bytes of the image are the packed file of these parts, and it is seen to hold them
 pub record IsImageOfParts (image : Seen) (head : Head) (rules : List Rule) (marks : List Id) (records : List Rec) : Type 0 where

@@ -37,10 +37,12 @@ use Rattle.addr_read.specs.Finding.{due_blocks, has_prefix, has_street}
 use Rattle.addr_read.specs.Records.{address_blocks}
 use Rattle.map_laws.specs.Laws.{gives_rows, is_nil}
 use Rattle.obf_reader.specs.Images.{IsImage, Seen, addresses_window, bans_of, groups_of, map_window, maps_of, pois_window, roads_of, routing_window}
+use Rattle.obf_reader.specs.Overlays.{parts_of}
+use Rattle.obf_reader.proofs.Overlays.{parts_are}
 use Rattle.image_hits.specs.Hits.{are_some, ban_hits, due_in as due_to, map_hits, poi_hits, road_hits}
 use Rattle.query_merge.specs.Gathering.{found_in, stored_in}
 use Rattle.query_merge.specs.Hits.{addresses_left}
-use Rattle.query_merge.specs.Questions.{due_in, parts_of, parts_read}
+use Rattle.query_merge.specs.Questions.{due_in}
 
 -- ---- records of five classes
 
@@ -96,8 +98,7 @@ module _ (image : Seen) (i : IsImage image) where
   parts = i.holds.parts
 
   has_parts : parts_of image ≡ Some parts
-  unfolding parts_of
-  has_parts = ap parts_read i.holds.form ∙ i.holds.are
+  has_parts = parts_are image i
 
   map_part : {X : Type 0} (of : Section → X) → of (section_in parts.map) ≡ of (maps_of image)
   map_part of = there (λ (fields : Fields). of (section_in fields)) (message_at (Boxes MapPart) (map_window image)) parts.map i.holds.sections.map

@@ -19,9 +19,11 @@ use Rattle.file_order.specs.Runs.{Placed, all_asked, first_failing, not_run}
 use Rattle.map_laws.specs.Laws.{gives_rows, untouched_by}
 use Rattle.map_laws.proofs.InOrder.{all_ordered, filter_in_order, ordered_twice}
 use Rattle.obf_reader.specs.Images.{IsImage, Seen}
+use Rattle.obf_reader.specs.Overlays.{overlay_of, parts_of, records_in, records_of}
+use Rattle.obf_reader.proofs.Overlays.{records_of_parts}
 use Rattle.query_merge.specs.Gathering.{found_in, found_over, stored_in}
 use Rattle.query_merge.specs.Laws.{HoldsHits, Layer, gathered}
-use Rattle.query_merge.specs.Questions.{answer_over, overlay_of, parts_of, records_in, records_of}
+use Rattle.query_merge.specs.Questions.{answer_over}
 use Rattle.query_merge.proofs.Gathering.{gathered_law}
 
 -- ---- rules
@@ -87,13 +89,20 @@ passing p (x ∷ xs) =
       | inr fails ↦ rw fails (passing p xs)
     ]
 
-records_are : (parts : Option FileParts) → records_in parts ≡ in_order (stored_in parts)
-records_are None = refl
-records_are (Some parts) = refl
+stored_are : (parts : Option FileParts) → records_of parts ≡ in_order (stored_in parts)
+stored_are None = refl
+stored_are (Some parts) = refl
 
-in_turn : (parts : Option FileParts) → AreInOrder (records_in parts)
+in_turn : (parts : Option FileParts) → AreInOrder (records_of parts)
 in_turn None = refl
 in_turn (Some parts) = ordered_twice (section_records parts)
+
+-- the records of an image are what its sections store, in order
+ordered_are : (image : Seen) → records_in image.bytes ≡ in_order (stored_in (parts_of image))
+ordered_are image = records_of_parts image ∙ stored_are (parts_of image)
+
+are_in_turn : (image : Seen) → AreInOrder (records_in image.bytes)
+are_in_turn image = subst AreInOrder (sym (records_of_parts image)) (in_turn (parts_of image))
 
 module _ (query : Query) where
   abbrev layer_of : Seen → Layer
@@ -111,7 +120,7 @@ module _ (query : Query) where
   holds_hits rules image same =
       let stored : List Rec = stored_in (parts_of image) in
       sym (filter_in_order (gives_rows image.rules query) stored)
-      ∙ (λ i. filter (gives_rows (same i) query) (sym (records_are (parts_of image)) i))
+      ∙ (λ i. filter (gives_rows (same i) query) (sym (ordered_are image) i))
 
   all_hold : (rules : List Rule) (images : List Seen) → AllByRecursion (HasRules rules) images → AllByRecursion (HoldsHits rules query) (map layer_of images)
   all_hold rules [] all = tt
@@ -130,8 +139,8 @@ module _ (query : Query) where
   answers : (base : Seen) (later : List Seen) → AllByRecursion (HasRules base.rules) later → answer base.rules query (in_order (found_over query (base ∷ later))) ≡ answer_over query (base ∷ later)
   answers base later same =
       ap (λ (rs : List Rec). answer base.rules query (in_order rs)) (gathered_is (base ∷ later))
-      ∙ gathered_law base.rules query (layer_of base) (map layer_of later) (in_turn (parts_of base)) (holds_hits base.rules base refl, all_hold base.rules later same)
-      ∙ ap (λ (os : List Overlay). answer base.rules query (laid (records_of base) os)) (overlays_are later)
+      ∙ gathered_law base.rules query (layer_of base) (map layer_of later) (are_in_turn base) (holds_hits base.rules base refl, all_hold base.rules later same)
+      ∙ ap (λ (os : List Overlay). answer base.rules query (laid (records_in base.bytes) os)) (overlays_are later)
 
   -- rows of what is gathered in order are the answer
   pub asked : (images : List Seen) (found : List Rec) (rows : List Row) → AllByRecursion IsImage images → not_run (map placed_of images) ≡ None → found ≡ in_order (found_over query images)

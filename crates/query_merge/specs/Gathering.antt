@@ -7,7 +7,7 @@ use Rattle.live_model.specs.declared.records.Rec.{Rec}
 use Rattle.file_grammar.specs.Files.{FileParts, section_records}
 use Rattle.map_laws.specs.Laws.{gives_rows, untouched_by}
 use Rattle.obf_reader.specs.Images.{Seen}
-use Rattle.query_merge.specs.Questions.{overlay_of, parts_of}
+use Rattle.obf_reader.specs.Overlays.{overlay_of, parts_of}
 
 -- the key of the name that is looked for; none where none is
 abbrev pub key_of : Query → List ℕ

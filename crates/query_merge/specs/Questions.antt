@@ -1,52 +1,25 @@
 -- What a question finds in map files that lie over one another, and how many of their blocks it may read.
-use Rattle.std.specs.Prelude.{ℕ, ◌+◌, List, [], ◌∷◌, bytes_eq, filter, length, map, false, sum, true, Option, Some, None, Result, Ok, Err}
+use Rattle.std.specs.Prelude.{ℕ, ◌+◌, List, [], ◌∷◌, bytes_eq, filter, length, map, false, sum, true, Option, Some, None}
 use Rattle.name_fold.specs.Keys.{key}
 use Rattle.live_model.specs.declared.queries.Query.{Query}
 use Rattle.live_model.specs.declared.queries.Query.TheVariants.{View, Category, Prefix, Street, Roads}
-use Rattle.live_model.specs.declared.records.Rec.{Rec}
 use Rattle.live_model.specs.declared.rows.Row.{Row}
-use Rattle.live_model.specs.Maps.{Overlay, answer, laid}
-use Rattle.obf_wire.specs.declared.file.FileBreak.{FileBreak}
+use Rattle.live_model.specs.Maps.{answer, laid}
 use Rattle.file_grammar.specs.AddressRules.{addresses_of}
-use Rattle.file_grammar.specs.Files.{FileParts, file_in, file_records}
-use Rattle.file_grammar.specs.Messages.{Fields}
+use Rattle.file_grammar.specs.Files.{FileParts}
 use Rattle.file_grammar.specs.PoiRules.{groups_in}
 use Rattle.file_grammar.specs.RoadRules.{routing_in}
-use Rattle.file_grammar.specs.Sections.{object_of, section_in}
+use Rattle.file_grammar.specs.Sections.{section_in}
 use Rattle.addr_read.specs.Finding.{due_blocks}
 use Rattle.addr_read.specs.Records.{address_blocks}
 use Rattle.obf_reader.specs.Images.{Seen}
-use Rattle.obf_reader.specs.Spread.{read_file}
+use Rattle.obf_reader.specs.Overlays.{overlay_of, parts_of, records_in}
 use Rattle.image_hits.specs.Hits.{due_in as due_to}
-
--- Files.
-
--- of a file of good form, which always has its parts
-abbrev pub parts_read : Result Fields FileBreak → Option FileParts
-parts_read (Ok fields) = file_in fields
-parts_read (Err b) = None
-
--- the parts of the file that an image is
-unfoldable pub parts_of : Seen → Option FileParts
-parts_of image = parts_read (read_file image.bytes)
-
--- the records of a file, in order
-abbrev pub records_in : Option FileParts → List Rec
-records_in None = []
-records_in (Some parts) = file_records parts
-
--- the records of an image, in order
-abbrev pub records_of : Seen → List Rec
-records_of image = records_in (parts_of image)
-
--- an image as it lies over others: the objects that it marks, and its records
-abbrev pub overlay_of : Seen → Overlay
-overlay_of image = record { marks = map object_of image.marks; records = records_of image }
 
 -- the rows of a question over the records of the first image, with the others laid over them in order
 abbrev pub answer_over : Query → List Seen → List Row
 answer_over query [] = []
-answer_over query (base ∷ images) = answer base.rules query (laid (records_of base) (map overlay_of images))
+answer_over query (base ∷ images) = answer base.rules query (laid (records_in base.bytes) (map overlay_of images))
 
 -- What it costs.
 

@@ -7,9 +7,10 @@ ghost use Rattle.live_model.specs.Maps.{in_order};
 ghost use Rattle.map_laws.specs.Laws.{untouched_by};
 ghost use Rattle.file_order.specs.Runs.{not_run};
 ghost use Rattle.obf_reader.specs.Images.{IsImage, Seen};
+ghost use Rattle.obf_reader.specs.Overlays.{overlay_of, parts_of};
 ghost use Rattle.query_merge.specs.Gathering.{found_in, found_over, key_of};
 ghost use Rattle.query_merge.specs.Hits.{blocks_left, hits_left};
-ghost use Rattle.query_merge.specs.Questions.{answer_over, due_in, due_over, overlay_of, parts_of};
+ghost use Rattle.query_merge.specs.Questions.{answer_over, due_in, due_over};
 
 use crate::finding::{hits_of, put_hit};
 use crate::hits::Hits;

@@ -6,9 +6,10 @@ ghost use Rattle.std.specs.List.{list_any};
 ghost use Rattle.live_model.specs.declared.queries.Query.TheVariants.{Category, Prefix, Roads, Street, View};
 ghost use Rattle.live_model.specs.Maps.{is_mark};
 ghost use Rattle.map_laws.specs.Laws.{untouched_by};
+ghost use Rattle.obf_reader.specs.Overlays.{overlay_of, parts_of};
 ghost use Rattle.query_merge.specs.Gathering.{found_in, key_of};
 ghost use Rattle.query_merge.specs.Hits.{blocks_left, hits_left, record_of};
-ghost use Rattle.query_merge.specs.Questions.{due_in, overlay_of, parts_of};
+ghost use Rattle.query_merge.specs.Questions.{due_in};
 
 use crate::hits::{Hit, Hits, RoadsAndBans};
 use image_hits::{ban_hits, map_hits, poi_hits, road_hits};

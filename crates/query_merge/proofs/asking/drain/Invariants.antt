@@ -3,7 +3,7 @@ use Rattle.std.specs.Arc.{arc_value}
 use Rattle.std.specs.Prelude.{filter}
 use Rattle.map_laws.specs.Laws.{untouched_by}
 use Rattle.query_merge.specs.Hits.{blocks_left, hits_left}
-use Rattle.query_merge.specs.Questions.{overlay_of}
+use Rattle.obf_reader.specs.Overlays.{overlay_of}
 use Rattle.query_merge.proofs.asking.drain.Given as goal
 
 -- what is left follows what was put, and each step is a block that is no longer to be read

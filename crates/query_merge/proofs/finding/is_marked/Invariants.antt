@@ -2,7 +2,7 @@ use Rattle.std.proofs.Common.{◌≡◌, length, map}
 use Rattle.std.specs.Arc.{arc_value}
 use Rattle.std.specs.List.{list_any}
 use Rattle.live_model.specs.Maps.{is_mark}
-use Rattle.query_merge.specs.Questions.{overlay_of}
+use Rattle.obf_reader.specs.Overlays.{overlay_of}
 use Rattle.query_merge.proofs.finding.is_marked.Given as goal
 
 -- none that was passed by decides on it
