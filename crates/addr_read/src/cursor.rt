@@ -1,7 +1,7 @@
 //! All addresses of a section, one after another.
 
 ghost use Rattle.std.specs.Prelude.{◌≡◌, ◌≢◌, ◌∷◌, ◌++◌, ◌+◌, [], drop, IfSome, MatchOption, None};
-ghost use Rattle.boxed_read.specs.Steps.{Coming, still_left, to_read};
+ghost use Rattle.boxed_read.specs.Steps.{Coming, nothing_left, still_left, to_read};
 ghost use Rattle.obf_wire.specs.Fields.{part_of};
 ghost use Rattle.addr_read.specs.Records.{records_at, records_of};
 ghost use Rattle.addr_read.specs.Sound.{HoldBlocks, HoldsBlock};
@@ -62,9 +62,9 @@ impl<'a> AllCursor<'a> {
         }
     }
 
-    /// The next address, or `None` where none is left. A step is counted where a block is read for it.
+    /// The next address, or `None` where none is left, and then none is left from there on. A step is counted where a block is read for it.
     pub fn next<L: Ledger>(&mut self, steps: &mut Steps<L>) -> Option<View<'a>>
-        ensures first { MatchOption result (still_left self.old ≡ []) (λ view. still_left self.old ≡ view ∷ still_left self.new) }
+        ensures first { MatchOption result ((still_left self.old ≡ []) × (self.new ≡ nothing_left)) (λ view. still_left self.old ≡ view ∷ still_left self.new) }
         ensures blocks { self.new.blocks ≡ drop (to_read self.old.here self.old.blocks) self.old.blocks }
         ensures steps { steps.new ≡ steps.old + to_read self.old.here self.old.blocks }
     {
@@ -72,6 +72,7 @@ impl<'a> AllCursor<'a> {
             return Some(view);
         }
         let Some(mut here) = self.next_block() else {
+            self.here = None;
             return None;
         };
         steps.tick();

@@ -1,7 +1,7 @@
 //! The addresses that a key finds, one after another.
 
 ghost use Rattle.std.specs.Prelude.{◌≡◌, ◌∷◌, ◌+◌, [], drop, false, filter, map, MatchBool, MatchOption};
-ghost use Rattle.boxed_read.specs.Steps.{Coming, still_left};
+ghost use Rattle.boxed_read.specs.Steps.{Coming, nothing_left, still_left};
 ghost use Rattle.addr_read.specs.Finding.{is_wanted, to_search};
 ghost use Rattle.addr_read.specs.Records.{records_of};
 ghost use Rattle.addr_read.specs.Sound.{HoldBlocks};
@@ -69,9 +69,9 @@ impl<'a, 'k> FoundCursor<'a, 'k> {
         }
     }
 
-    /// The next address that is found, or `None` where none is left. A step is counted for each block that is read for it.
+    /// The next address that is found, or `None` where none is left, and then none is left from there on. A step is counted for each block that is read for it.
     pub fn next<L: Ledger>(&mut self, steps: &mut Steps<L>) -> Option<View<'a>>
-        ensures first { MatchOption result (still_left self.old ≡ []) (λ view. still_left self.old ≡ view ∷ still_left self.new) }
+        ensures first { MatchOption result ((still_left self.old ≡ []) × (self.new ≡ nothing_left)) (λ view. still_left self.old ≡ view ∷ still_left self.new) }
         ensures blocks { self.new.blocks ≡ drop (to_search self.old.here self.old.blocks) self.old.blocks }
         ensures steps { steps.new ≡ steps.old + to_search self.old.here self.old.blocks }
     {
@@ -80,6 +80,7 @@ impl<'a, 'k> FoundCursor<'a, 'k> {
                 return Some(view);
             }
             if !self.begin_block() {
+                self.here = None;
                 return None;
             }
             steps.tick();

@@ -1,5 +1,5 @@
 -- Filters of records at a rectangle, and what is left of a section under one.
-use Rattle.std.specs.Prelude.{◌≡◌, ℕ, List, Bool, true, filter, Option}
+use Rattle.std.specs.Prelude.{◌≡◌, ℕ, List, [], Bool, true, filter, Option}
 use Rattle.std.specs.List.{list_all}
 use Rattle.live_model.specs.declared.points.Rect.{Rect}
 use Rattle.live_model.specs.Points.{overlaps}
@@ -20,6 +20,10 @@ PassesOnlyNear boxing reads passing rect =
 pub record Hits (A : Type 0) : Type 0 where
   pub records : List A
   pub blocks : ℕ
+
+-- nothing at all
+abbrev pub no_hits : {A : Type 0} → Hits A
+no_hits = record { records = []; blocks = 0 }
 
 -- the records of a section that pass, in the order of the file, and the blocks that are due
 abbrev pub hits : {A : Type 0} → (A → Bool) → Rect → InBoxes A → Hits A

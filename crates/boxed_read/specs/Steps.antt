@@ -7,6 +7,10 @@ pub record Coming (A : Type 0) : Type 0 where
   pub blocks : List (List A)
 
 module _ {A : Type 0} where
+  -- nothing at all
+  abbrev pub nothing_left : Coming A
+  nothing_left = record { here = []; blocks = [] }
+
   -- the records of blocks, one block after another
   abbrev pub joined : List (List A) → List A
   joined blocks = flat_map (λ block. block) blocks

@@ -2,7 +2,8 @@
 
 ghost use Rattle.std.specs.Prelude.{◌≡◌, ◌∷◌, ◌+◌, [], MatchOption};
 ghost use Rattle.std.specs.Prelude.{filter as kept_by, length};
-ghost use Rattle.boxed_read.specs.Steps.{Coming, still_left};
+ghost use Rattle.boxed_read.specs.Filters.{no_hits};
+ghost use Rattle.boxed_read.specs.Steps.{Coming, nothing_left, still_left};
 
 use crate::class::ReadClass;
 use crate::filter::SpatialFilter;
@@ -38,9 +39,10 @@ impl<'a, C: ReadClass, F: SpatialFilter<C>> HitCursor<'a, C, F> {
         HitCursor { met, filter }
     }
 
-    /// The next record that passes, or `None` where none is left. A step is counted for each block that is read for it, and no block is read twice.
+    /// The next record that passes, or `None` where none is left, and then none is left from there on. A step is counted for each block that is read for it,
+    /// and no block is read twice.
     pub fn next<L: Ledger>(&mut self, steps: &mut Steps<L>) -> Option<View<'a, C>>
-        ensures first { MatchOption result (self.old.records ≡ []) (λ view. self.old.records ≡ view ∷ self.new.records) }
+        ensures first { MatchOption result ((self.old.records ≡ []) × (self.new ≡ no_hits)) (λ view. self.old.records ≡ view ∷ self.new.records) }
         ensures steps { steps.new + self.new.blocks ≡ steps.old + self.old.blocks }
     {
         next_passing(&mut self.met, &self.filter, steps)
@@ -53,7 +55,7 @@ fn next_passing<'a, C: ReadClass, F: SpatialFilter<C>, L: Ledger>(
     filter: &F,
     steps: &mut Steps<L>,
 ) -> Option<View<'a, C>>
-    ensures first { MatchOption result (kept_by (F.passing filter.now) (still_left met.old) ≡ []) (λ view. kept_by (F.passing filter.now) (still_left met.old) ≡ view ∷ kept_by (F.passing filter.now) (still_left met.new)) }
+    ensures first { MatchOption result ((kept_by (F.passing filter.now) (still_left met.old) ≡ []) × (met.new ≡ nothing_left)) (λ view. kept_by (F.passing filter.now) (still_left met.old) ≡ view ∷ kept_by (F.passing filter.now) (still_left met.new)) }
     ensures steps { steps.new + length met.new.blocks ≡ steps.old + length met.old.blocks }
 {
     while let Some(view) = met.next(steps) {

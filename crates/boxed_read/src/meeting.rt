@@ -5,7 +5,7 @@ ghost use Rattle.box_tree.specs.Search.{first_meeting};
 ghost use Rattle.boxed_read.specs.Meeting.{met};
 ghost use Rattle.boxed_read.specs.Records.{records_of};
 ghost use Rattle.boxed_read.specs.Sound.{HoldBlocks};
-ghost use Rattle.boxed_read.specs.Steps.{Coming, still_left, to_read};
+ghost use Rattle.boxed_read.specs.Steps.{Coming, nothing_left, still_left, to_read};
 
 use crate::class::ReadClass;
 use crate::entries::Entries;
@@ -69,9 +69,9 @@ impl<'a, C: ReadClass> MeetingCursor<'a, C> {
         }
     }
 
-    /// The next record, or `None` where none is left. A step is counted where a block is read for it.
+    /// The next record, or `None` where none is left, and then none is left from there on. A step is counted where a block is read for it.
     pub fn next<L: Ledger>(&mut self, steps: &mut Steps<L>) -> Option<View<'a, C>>
-        ensures first { MatchOption result (still_left self.old ≡ []) (λ view. still_left self.old ≡ view ∷ still_left self.new) }
+        ensures first { MatchOption result ((still_left self.old ≡ []) × (self.new ≡ nothing_left)) (λ view. still_left self.old ≡ view ∷ still_left self.new) }
         ensures blocks { self.new.blocks ≡ drop (to_read self.old.here self.old.blocks) self.old.blocks }
         ensures steps { steps.new ≡ steps.old + to_read self.old.here self.old.blocks }
     {
@@ -79,6 +79,7 @@ impl<'a, C: ReadClass> MeetingCursor<'a, C> {
             return Some(view);
         }
         let Some((span, after)) = next_meeting(self.kept, &self.rect, self.from) else {
+            self.here = None;
             return None;
         };
         steps.tick();

@@ -4,7 +4,7 @@ use Rattle.std.specs.Prelude.{bytes_eq, sum}
 use Rattle.std.proofs.lemmas.List.Sums.{sum_by-cons}
 use Rattle.std.proofs.lemmas.List.{append-nil}
 use Rattle.live_model.specs.declared.records.PoiRec.{PoiRec}
-use Rattle.boxed_read.specs.Filters.{Hits}
+use Rattle.boxed_read.specs.Filters.{Hits, no_hits}
 use Rattle.poi_section.specs.CategoryHits.{all_hits, joined_hits, of_category}
 use Rattle.poi_section.specs.PoiSections.{GroupRead}
 
@@ -46,3 +46,7 @@ none_of_next found all later e none = ap (λ (hs : List (Hits PoiRec)). (joined_
 
 pub blocks_of_next : (found : Hits PoiRec) (all later : List (Hits PoiRec)) → all ≡ found ∷ later → (joined_hits all).blocks ≡ found.blocks + (joined_hits later).blocks
 blocks_of_next found all later e = ap (λ (hs : List (Hits PoiRec)). (joined_hits hs).blocks) e ∙ sum_first found.blocks (map (λ (h : Hits PoiRec). h.blocks) later)
+
+-- a section that is done adds nothing
+pub done_of_all : (here : Hits PoiRec) → here ≡ no_hits → all_hits (Some here) [] ≡ no_hits
+done_of_all here e = ap (λ (h : Hits PoiRec). all_hits (Some h) []) e

@@ -1,6 +1,7 @@
 //! The points of interest of a category in a rectangle, one after another.
 
-ghost use Rattle.std.specs.Prelude.{◌≡◌, ◌≤◌, ◌∷◌, ◌+◌, [], bytes_eq, map, IfSome, MatchOption};
+ghost use Rattle.std.specs.Prelude.{◌≡◌, ◌∷◌, ◌+◌, [], bytes_eq, map, IfSome, MatchOption};
+ghost use Rattle.boxed_read.specs.Filters.{no_hits};
 ghost use Rattle.poi_section.specs.CategoryHits.{all_hits, category_hits, of_category};
 ghost use Rattle.poi_section.specs.PoiSections.{HoldGroups, HoldsGroup, category_in, group_kept};
 
@@ -54,10 +55,11 @@ impl<'a> CategoryCursor<'a> {
         }
     }
 
-    /// The next point of interest, or `None` where none is left. A step is counted for each block that is read for it, and no block is read twice.
+    /// The next point of interest, or `None` where none is left, and then none is left from there on. A step is counted for each block that is read for it,
+    /// and no block is read twice.
     pub fn next<L: Ledger>(&mut self, steps: &mut Steps<L>) -> Option<View<'a, PoiClass>>
-        ensures first { MatchOption result (self.old.records ≡ []) (λ view. self.old.records ≡ view ∷ self.new.records) }
-        ensures steps { steps.new + self.new.blocks ≤ steps.old + self.old.blocks }
+        ensures first { MatchOption result ((self.old.records ≡ []) × (self.new ≡ no_hits)) (λ view. self.old.records ≡ view ∷ self.new.records) }
+        ensures steps { steps.new + self.new.blocks ≡ steps.old + self.old.blocks }
     {
         next_hit(&mut self.here, &mut self.groups, steps)
     }
@@ -129,14 +131,14 @@ fn is_of(window: Window<'_>, group: &GroupKept, category: &str) -> bool
 }
 
 /// The next of what was found of one group, if there is one, or of the groups after it.
-#[tactic(auto, using(crate::proofs::CategoryWalk::first_of_all, crate::proofs::CategoryWalk::none_of_it, crate::proofs::CategoryWalk::first_of_next, crate::proofs::CategoryWalk::none_of_next, crate::proofs::CategoryWalk::blocks_of_next, crate::proofs::CategoryWalk::blocks_of_all))]
+#[tactic(auto, using(crate::proofs::CategoryWalk::first_of_all, crate::proofs::CategoryWalk::none_of_it, crate::proofs::CategoryWalk::first_of_next, crate::proofs::CategoryWalk::none_of_next, crate::proofs::CategoryWalk::blocks_of_next, crate::proofs::CategoryWalk::blocks_of_all, crate::proofs::CategoryWalk::done_of_all))]
 fn next_hit<'a, L: Ledger>(
     here: &mut Option<HitCursor<'a, PoiClass, PlacedIn>>,
     groups: &mut CategoryGroups<'a>,
     steps: &mut Steps<L>,
 ) -> Option<View<'a, PoiClass>>
-    ensures first { MatchOption result ((all_hits here.old groups.old).records ≡ []) (λ view. (all_hits here.old groups.old).records ≡ view ∷ (all_hits here.new groups.new).records) }
-    ensures steps { steps.new + (all_hits here.new groups.new).blocks ≤ steps.old + (all_hits here.old groups.old).blocks }
+    ensures first { MatchOption result (((all_hits here.old groups.old).records ≡ []) × (all_hits here.new groups.new ≡ no_hits)) (λ view. (all_hits here.old groups.old).records ≡ view ∷ (all_hits here.new groups.new).records) }
+    ensures steps { steps.new + (all_hits here.new groups.new).blocks ≡ steps.old + (all_hits here.old groups.old).blocks }
 {
     if let Some(view) = next_of(here, steps) {
         return Some(view);
@@ -156,7 +158,7 @@ fn next_of<'a, L: Ledger>(
     here: &mut Option<HitCursor<'a, PoiClass, PlacedIn>>,
     steps: &mut Steps<L>,
 ) -> Option<View<'a, PoiClass>>
-    ensures first { MatchOption result ((all_hits here.old []).records ≡ []) (λ view. (all_hits here.old []).records ≡ view ∷ (all_hits here.new []).records) }
+    ensures first { MatchOption result (((all_hits here.old []).records ≡ []) × (all_hits here.new [] ≡ no_hits)) (λ view. (all_hits here.old []).records ≡ view ∷ (all_hits here.new []).records) }
     ensures steps { steps.new + (all_hits here.new []).blocks ≡ steps.old + (all_hits here.old []).blocks }
 {
     match here {

@@ -1,4 +1,4 @@
-use Rattle.std.specs.Prelude.{◌≡◌, ◌≤◌, ◌+◌, length, None}
+use Rattle.std.specs.Prelude.{◌≡◌, ◌+◌, length, None}
 use Rattle.poi_section.specs.CategoryHits.{all_hits, joined_hits}
 use Rattle.poi_section.proofs.category_cursor.next_hit.Given as goal
 
@@ -7,7 +7,7 @@ abbrev pub invariant-loop-next : goal.invariant-loop-next
 invariant-loop-next g l = record {
   left : (all_hits l.fn.here l.fn.groups).records ≡ (joined_hits l.groups).records;
   none : l.here ≡ None;
-  read : l.steps + (joined_hits l.groups).blocks ≤ l.fn.steps + (all_hits l.fn.here l.fn.groups).blocks;
+  read : l.steps + (joined_hits l.groups).blocks ≡ l.fn.steps + (all_hits l.fn.here l.fn.groups).blocks;
 }
 
 abbrev pub decreases-loop-next : goal.decreases-loop-next
