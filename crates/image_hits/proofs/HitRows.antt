@@ -1,8 +1,7 @@
 -- What passes a filter is what gives rows to the question.
-use Rattle.std.proofs.Common.{◌≡◌, ℕ, ◌+◌, Bool, true, false, List, [], ◌∷◌, ◌++◌, map, length, refl, sym, ap, ◌∙◌, inl, inr}
+use Rattle.std.proofs.Common.{◌≡◌, ℕ, ◌+◌, Bool, true, false, List, [], ◌∷◌, ◌++◌, map, not, refl, sym, ap, ◌∙◌, inl, inr}
 use Rattle.std.specs.Prelude.{◌&&◌, ◌||◌, bytes_eq, filter, flat_map, sum}
 use Rattle.std.proofs.lemmas.Bool.{cases_Bool}
-use Rattle.std.proofs.lemmas.List.{length-map}
 use Rattle.std.proofs.lemmas.List.Elements.{filter-append}
 use Rattle.live_model.specs.declared.points.Rect.{Rect}
 use Rattle.live_model.specs.declared.records.BanRec.{BanRec}
@@ -20,11 +19,11 @@ use Rattle.live_model.specs.Points.{is_inside}
 use Rattle.file_grammar.specs.Listed.{Reading, block_records, records_in}
 use Rattle.file_grammar.specs.PoiRules.{Group, group_records, poi_read}
 use Rattle.file_grammar.specs.RoadRules.{ban_read, road_read}
-use Rattle.file_grammar.specs.Sections.{Block, Entry, Leaf, Section, leaves_in}
+use Rattle.file_grammar.specs.Sections.{Block, Entry, Section}
+use Rattle.map_laws.specs.Laws.{gives_rows, is_nil}
 use Rattle.boxed_read.specs.Filters.{Hits, hits}
-use Rattle.boxed_read.specs.Meeting.{InBoxes, due, in_boxes, meeting}
+use Rattle.boxed_read.specs.Meeting.{InBoxes, due, in_boxes}
 use Rattle.boxed_read.specs.Steps.{joined}
-use Rattle.boxed_read.proofs.MeetingWalk.{map_met}
 use Rattle.map_section.specs.MapLawful.{map_reads}
 use Rattle.map_section.specs.MapNear.{shown_in}
 use Rattle.poi_section.specs.CategoryHits.{category_hits, group_hits, joined_hits, of_category}
@@ -32,7 +31,7 @@ use Rattle.poi_section.specs.PoiNear.{placed_in}
 use Rattle.poi_section.specs.PoiSections.{GroupRead, group_read}
 use Rattle.road_section.specs.RoadNear.{banned_in, meets_segment, passes_by}
 use Rattle.obf_reader.specs.Images.{Seen, bans_of, groups_of, maps_of, roads_of}
-use Rattle.image_hits.specs.Hits.{are_some, ban_hits, due_in, gives_rows, map_hits, poi_hits, road_hits}
+use Rattle.image_hits.specs.Hits.{ban_hits, map_hits, poi_hits, road_hits}
 
 -- ---- sections
 
@@ -59,27 +58,21 @@ module _ {A : Type 0} (reads : Reading A) where
       filter-append p here others ∙ ap (λ (rs : List A). rs ++ filter p others) (entries_alike p q same block block.entries) ∙ ap (λ (rs : List A). filter q here ++ rs) (alike p q same blocks)
       ∙ sym (filter-append q here others)
 
-  due_is : (rect : Rect) (section : Section) → due rect (in_boxes reads section) ≡ due_in rect section
-  due_is rect section =
-      let boxes : List Rect = map (λ (leaf : Leaf). leaf.node.box) (leaves_in section.nodes) in
-      ap (λ (rs : List (List A)). length rs) (sym (map_met (block_records reads) rect boxes section.blocks)) ∙ length-map (meeting rect boxes section.blocks) (block_records reads)
-
   abbrev as_hits : ℕ → List A → Hits A
   as_hits blocks records = record { records = records; blocks = blocks }
 
   -- the hits of a section, where the tests agree
   section_hits : (p q : A → Bool) → ((block : Block) (entry : Entry) → p (reads block entry) ≡ q (reads block entry)) → (rect : Rect) (section : Section)
-      → hits p rect (in_boxes reads section) ≡ record { records = filter q (records_in reads section); blocks = due_in rect section }
+      → hits p rect (in_boxes reads section) ≡ record { records = filter q (records_in reads section); blocks = due rect (in_boxes reads section) }
   section_hits p q same rect section =
       ap (λ (rs : List A). as_hits (due rect (in_boxes reads section)) (filter p rs)) (joined_is section.blocks)
       ∙ ap (as_hits (due rect (in_boxes reads section))) (alike p q same section.blocks)
-      ∙ ap (λ (n : ℕ). as_hits n (filter q (records_in reads section))) (due_is rect section)
 
   pub found_hits : (p q : A → Bool) → ((block : Block) (entry : Entry) → p (reads block entry) ≡ q (reads block entry)) → (rect : Rect) (section : Section) (boxed : InBoxes A) (found : Hits A)
-      → boxed ≡ in_boxes reads section → found ≡ hits p rect boxed → found ≡ record { records = filter q (records_in reads section); blocks = due_in rect section }
+      → boxed ≡ in_boxes reads section → found ≡ hits p rect boxed → found ≡ record { records = filter q (records_in reads section); blocks = due rect (in_boxes reads section) }
   found_hits p q same rect section boxed found e is = is ∙ ap (hits p rect) e ∙ section_hits p q same rect section
 
-some_if : (b : Bool) (row : Row) → b ≡ are_some (row_if b row)
+some_if : (b : Bool) (row : Row) → b ≡ not (is_nil (row_if b row))
 some_if true row = refl
 some_if false row = refl
 
@@ -92,7 +85,7 @@ maps_hit image rect zoom boxed found e is =
 
 -- ---- roads and restrictions
 
-has_segment : (rect : Rect) (road : RoadRec) (index : ℕ) (nodes : List RoadNode) → meets_segment rect nodes ≡ are_some (segments_in rect road index nodes)
+has_segment : (rect : Rect) (road : RoadRec) (index : ℕ) (nodes : List RoadNode) → meets_segment rect nodes ≡ not (is_nil (segments_in rect road index nodes))
 has_segment rect road index [] = refl
 has_segment rect road index (a ∷ []) = refl
 has_segment rect road index (a ∷ b ∷ nodes) =
@@ -148,18 +141,17 @@ module _ (rules : List Rule) (category : List ℕ) (rect : Rect) where
         | inr other ↦ rw other (rest ∙ sym (split ∙ ap (λ (rs : List PoiRec). rs ++ filter gives (flat_map group_records groups)) (none_given group other)))
       ]
 
-  groups_due : (groups : List Group) → map (λ (h : Hits PoiRec). h.blocks) (map (group_hits rect) (of_category category (map group_read groups))) ≡ map (λ (g : Group). due_in rect g.section) (filter is_of groups)
+  groups_due : (groups : List Group) → map (λ (h : Hits PoiRec). h.blocks) (map (group_hits rect) (of_category category (map group_read groups))) ≡ map (λ (g : Group). due rect (group_read g).section) (filter is_of groups)
   groups_due [] = refl
   groups_due (group ∷ groups) =
       let rest = groups_due groups in
-      let others : List ℕ = map (λ (h : Hits PoiRec). h.blocks) (map (group_hits rect) (of_category category (map group_read groups))) in
       elim (cases_Bool (is_of group)) [
-        | inl same ↦ rw same (ap (λ (n : ℕ). n ∷ others) (due_is (poi_read group.category.value) rect group.section) ∙ ap (λ (ns : List ℕ). due_in rect group.section ∷ ns) rest)
+        | inl same ↦ rw same (ap (λ (ns : List ℕ). due rect (group_read group).section ∷ ns) rest)
         | inr other ↦ rw other rest
       ]
 
   abbrev found_in : List Group → Hits PoiRec
-  found_in groups = record { records = filter gives (flat_map group_records groups); blocks = sum (map (λ (g : Group). due_in rect g.section) (filter is_of groups)) }
+  found_in groups = record { records = filter gives (flat_map group_records groups); blocks = sum (map (λ (g : Group). due rect (group_read g).section) (filter is_of groups)) }
 
   abbrev made_of : List ℕ → List PoiRec → Hits PoiRec
   made_of blocks records = record { records = records; blocks = sum blocks }

@@ -1,5 +1,5 @@
 -- The laws of hits.
-use Rattle.std.proofs.Common.{◌≡◌, Bool, true, false, List, [], ◌∷◌, ◌++◌, map, Result, Ok, refl, sym, ap, ◌∙◌, inl, inr}
+use Rattle.std.proofs.Common.{◌≡◌, Bool, true, false, List, [], ◌∷◌, ◌++◌, map, not, Result, Ok, refl, sym, ap, ◌∙◌, inl, inr}
 use Rattle.std.specs.Prelude.{filter, flat_map}
 use Rattle.std.proofs.lemmas.Bool.{cases_Bool}
 use Rattle.live_model.specs.declared.queries.Query.{Query}
@@ -20,10 +20,10 @@ use Rattle.file_grammar.specs.RoadRules.{bans_in, roads_in, routing_in}
 use Rattle.file_grammar.specs.Sections.{section_in}
 use Rattle.boxed_read.specs.Records.{fields_read}
 use Rattle.obf_reader.specs.Images.{IsImageOf, Seen, map_window, pois_window, routing_window}
-use Rattle.image_hits.specs.Hits.{are_some, gives_rows}
+use Rattle.map_laws.specs.Laws.{gives_rows, is_nil}
 use Rattle.image_hits.specs.Laws.{RecordsOfImage, RowsOfHits}
 
-no_rows : (rows : List Row) → are_some rows ≡ false → rows ≡ []
+no_rows : (rows : List Row) → not (is_nil rows) ≡ false → rows ≡ []
 no_rows [] e = refl
 no_rows (row ∷ rows) e = absurd cc
 

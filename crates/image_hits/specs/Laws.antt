@@ -5,13 +5,13 @@ use Rattle.live_model.specs.declared.records.Rec.{Rec}
 use Rattle.live_model.specs.declared.records.Rec.TheVariants.{Map, Addr, Poi, Road, Ban}
 use Rattle.live_model.specs.declared.rules.Rule.{Rule}
 use Rattle.live_model.specs.Maps.{answer}
+use Rattle.map_laws.specs.Laws.{gives_rows}
 use Rattle.file_grammar.specs.AddressRules.{address_records_in, addresses_of}
 use Rattle.file_grammar.specs.Files.{FileParts, section_records}
 use Rattle.file_grammar.specs.MapRules.{map_records_in}
 use Rattle.file_grammar.specs.PoiRules.{group_records}
 use Rattle.file_grammar.specs.RoadRules.{bans_in, roads_in}
 use Rattle.obf_reader.specs.Images.{IsImageOf, Seen, bans_of, groups_of, maps_of, roads_of}
-use Rattle.image_hits.specs.Hits.{gives_rows}
 
 -- what gives no row may be left out
 abbrev pub RowsOfHits : Type 0

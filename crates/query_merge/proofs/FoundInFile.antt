@@ -24,22 +24,24 @@ use Rattle.file_grammar.specs.declared.parts.Part.TheVariants.{Addresses as Addr
 use Rattle.file_grammar.specs.declared.parts.Version.{Version}
 use Rattle.file_grammar.specs.AddressRules.{address_records_in, addresses_of}
 use Rattle.file_grammar.specs.Files.{FileParts}
-use Rattle.file_grammar.specs.MapRules.{map_records_in}
+use Rattle.file_grammar.specs.MapRules.{map_read, map_records_in}
 use Rattle.file_grammar.specs.Messages.{Fields}
 use Rattle.file_grammar.specs.PoiRules.{Group, group_records, groups_in}
 use Rattle.file_grammar.specs.Readings.{message_at}
-use Rattle.file_grammar.specs.RoadRules.{bans_in, roads_in, routing_in}
+use Rattle.file_grammar.specs.RoadRules.{ban_read, bans_in, road_read, roads_in, routing_in}
 use Rattle.file_grammar.specs.Sections.{Section, section_in}
 use Rattle.boxed_read.specs.Filters.{Hits}
+use Rattle.boxed_read.specs.Meeting.{due, in_boxes}
 use Rattle.boxed_read.specs.Records.{fields_read}
 use Rattle.boxed_read.specs.Steps.{Coming, joined, still_left}
+use Rattle.poi_section.specs.PoiSections.{group_read}
 use Rattle.addr_read.specs.Finding.{due_blocks, has_prefix, has_street}
 use Rattle.addr_read.specs.Records.{address_blocks}
 use Rattle.map_laws.specs.Laws.{gives_rows, is_nil}
 use Rattle.obf_reader.specs.Images.{IsImage, Seen, addresses_window, bans_of, groups_of, map_window, maps_of, pois_window, roads_of, routing_window}
 use Rattle.obf_reader.specs.Overlays.{parts_of}
 use Rattle.obf_reader.proofs.Overlays.{parts_are}
-use Rattle.image_hits.specs.Hits.{are_some, ban_hits, due_in as due_to, map_hits, poi_hits, road_hits}
+use Rattle.image_hits.specs.Hits.{ban_hits, map_hits, poi_hits, road_hits}
 use Rattle.query_merge.specs.Gathering.{found_in, stored_in}
 use Rattle.query_merge.specs.Hits.{addresses_left}
 use Rattle.query_merge.specs.Questions.{due_in}
@@ -79,10 +81,6 @@ three_nils rs = append-nil (rs ++ [] ++ []) ∙ two_nils rs
 
 four_nils : (rs : List Rec) → rs ++ [] ++ [] ++ [] ++ [] ≡ rs
 four_nils rs = append-nil (rs ++ [] ++ [] ++ []) ∙ three_nils rs
-
-some_or_none : (rows : List Row) → not (is_nil rows) ≡ are_some rows
-some_or_none [] = refl
-some_or_none (row ∷ rows) = refl
 
 wanted : (b : Bool) (row : Row) → not (is_nil (row_if b row)) ≡ b
 wanted true row = refl
@@ -132,51 +130,51 @@ module _ (image : Seen) (i : IsImage image) where
   pub maps_found : (rect : Rect) (zoom : ℕ) (hits : Hits MapRec) → hits ≡ map_hits image rect zoom → map Map hits.records ≡ found_in (View rect zoom) image
   maps_found rect zoom hits is =
       let q : Query = View rect zoom in
-      let shown : MapRec → Bool = λ m. are_some (rows image.rules q (Map m)) in
+      let shown : MapRec → Bool = λ m. not (is_nil (rows image.rules q (Map m))) in
       ap (λ (h : Hits MapRec). map Map h.records) is
       ∙ sym (map_part (λ (s : Section). map Map (filter shown (map_records_in s))))
       ∙ sym (four_nils (map Map (filter shown (map_records_in (section_in parts.map)))))
       ∙ sym (by_classes q (map Map (filter shown (map_records_in (section_in parts.map)))) [] [] [] []
-      (own (gives q) Map shown (map_records_in (section_in parts.map)) (λ m. some_or_none (rows image.rules q (Map m))))
+      (own (gives q) Map shown (map_records_in (section_in parts.map)) (λ m. refl))
       (none (gives q) Addr (address_records_in (addresses_of parts.addresses)) (λ a. refl)) (none (gives q) Poi (flat_map group_records (groups_in parts.pois)) (λ o. refl))
       (none (gives q) Road (roads_in (routing_in parts.roads).roads) (λ r. refl)) (none (gives q) Ban (bans_in (routing_in parts.roads).bans) (λ b. refl)))
 
   pub maps_due : (rect : Rect) (zoom : ℕ) (hits : Hits MapRec) → hits ≡ map_hits image rect zoom → hits.blocks ≡ due_in (View rect zoom) (parts_of image)
-  maps_due rect zoom hits is = ap (λ (h : Hits MapRec). h.blocks) is ∙ sym (due_there (View rect zoom) ∙ map_part (due_to rect))
+  maps_due rect zoom hits is = ap (λ (h : Hits MapRec). h.blocks) is ∙ sym (due_there (View rect zoom) ∙ map_part (λ (s : Section). due rect (in_boxes map_read s)))
 
   pub pois_found : (category : List ℕ) (rect : Rect) (hits : Hits PoiRec) → hits ≡ poi_hits image category rect → map Poi hits.records ≡ found_in (Category category rect) image
   pois_found category rect hits is =
       let q : Query = Category category rect in
-      let given : PoiRec → Bool = λ o. are_some (rows image.rules q (Poi o)) in
+      let given : PoiRec → Bool = λ o. not (is_nil (rows image.rules q (Poi o))) in
       ap (λ (h : Hits PoiRec). map Poi h.records) is
       ∙ sym (poi_part (λ (gs : List Group). map Poi (filter given (flat_map group_records gs))))
       ∙ sym (two_nils (map Poi (filter given (flat_map group_records (groups_in parts.pois)))))
       ∙ sym (by_classes q [] [] (map Poi (filter given (flat_map group_records (groups_in parts.pois)))) [] []
       (none (gives q) Map (map_records_in (section_in parts.map)) (λ m. refl)) (none (gives q) Addr (address_records_in (addresses_of parts.addresses)) (λ a. refl))
-      (own (gives q) Poi given (flat_map group_records (groups_in parts.pois)) (λ o. some_or_none (rows image.rules q (Poi o))))
+      (own (gives q) Poi given (flat_map group_records (groups_in parts.pois)) (λ o. refl))
       (none (gives q) Road (roads_in (routing_in parts.roads).roads) (λ r. refl)) (none (gives q) Ban (bans_in (routing_in parts.roads).bans) (λ b. refl)))
 
   pub pois_due : (category : List ℕ) (rect : Rect) (hits : Hits PoiRec) → hits ≡ poi_hits image category rect → hits.blocks ≡ due_in (Category category rect) (parts_of image)
   pois_due category rect hits is =
       ap (λ (h : Hits PoiRec). h.blocks) is
-      ∙ sym (due_there (Category category rect) ∙ poi_part (λ (gs : List Group). sum (map (λ (g : Group). due_to rect g.section) (filter (λ (g : Group). bytes_eq g.category.value category) gs))))
+      ∙ sym (due_there (Category category rect) ∙ poi_part (λ (gs : List Group). sum (map (λ (g : Group). due rect (group_read g).section) (filter (λ (g : Group). bytes_eq g.category.value category) gs))))
 
   pub roads_found : (rect : Rect) (roads : Hits RoadRec) (bans : Hits BanRec) → roads ≡ road_hits image rect → bans ≡ ban_hits image rect → map Road roads.records ++ map Ban bans.records ≡ found_in (Roads rect) image
   roads_found rect roads bans are also =
       let q : Query = Roads rect in
-      let passed : RoadRec → Bool = λ r. are_some (rows image.rules q (Road r)) in
-      let banned : BanRec → Bool = λ b. are_some (rows image.rules q (Ban b)) in
+      let passed : RoadRec → Bool = λ r. not (is_nil (rows image.rules q (Road r))) in
+      let banned : BanRec → Bool = λ b. not (is_nil (rows image.rules q (Ban b))) in
       (λ j. map Road (are j).records ++ map Ban (also j).records)
       ∙ sym (road_part (λ (r b : Section). map Road (filter passed (roads_in r)) ++ map Ban (filter banned (bans_in b))))
       ∙ sym (by_classes q [] [] [] (map Road (filter passed (roads_in (routing_in parts.roads).roads))) (map Ban (filter banned (bans_in (routing_in parts.roads).bans)))
       (none (gives q) Map (map_records_in (section_in parts.map)) (λ m. refl)) (none (gives q) Addr (address_records_in (addresses_of parts.addresses)) (λ a. refl))
       (none (gives q) Poi (flat_map group_records (groups_in parts.pois)) (λ o. refl))
-      (own (gives q) Road passed (roads_in (routing_in parts.roads).roads) (λ r. some_or_none (rows image.rules q (Road r))))
-      (own (gives q) Ban banned (bans_in (routing_in parts.roads).bans) (λ b. some_or_none (rows image.rules q (Ban b)))))
+      (own (gives q) Road passed (roads_in (routing_in parts.roads).roads) (λ r. refl))
+      (own (gives q) Ban banned (bans_in (routing_in parts.roads).bans) (λ b. refl)))
 
   pub roads_due : (rect : Rect) (roads : Hits RoadRec) (bans : Hits BanRec) → roads ≡ road_hits image rect → bans ≡ ban_hits image rect → roads.blocks + bans.blocks ≡ due_in (Roads rect) (parts_of image)
   roads_due rect roads bans are also =
-      (λ j. (are j).blocks + (also j).blocks) ∙ sym (due_there (Roads rect) ∙ road_part (λ (r b : Section). due_to rect r + due_to rect b))
+      (λ j. (are j).blocks + (also j).blocks) ∙ sym (due_there (Roads rect) ∙ road_part (λ (r b : Section). due rect (in_boxes road_read r) + due rect (in_boxes ban_read b)))
 
   -- ---- addresses
 

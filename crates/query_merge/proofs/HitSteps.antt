@@ -12,7 +12,7 @@ module _ {A : Type 0} where
 
   -- the blocks that are read are left no more
   pub searched : (here : List A) (blocks more : List (List A)) (before after : ℕ) → more ≡ drop (to_search here blocks) blocks → after ≡ before + to_search here blocks
-      → after + length more ≤ before + length blocks
+      → after + length more ≡ before + length blocks
   searched here blocks more before after left steps =
       let most = within here blocks in
       let rest : length more ≡ length blocks - to_search here blocks = ap length left ∙ length-drop (to_search here blocks) blocks in

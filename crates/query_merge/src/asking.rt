@@ -24,8 +24,8 @@ use std::sync::Arc;
 use std::sync::ledger::Ledger;
 
 /// The rows of a question over map files that follow one another: of a record the last file that decides on its object tells, and the rows
-/// stand in the order of records. A step is counted for each block that is read; no file is read where it has no block that is due. Memory is
-/// taken for what is found.
+/// stand in the order of records. A step is counted for each block that is read: as many as are due, or fewer where memory runs out; no file
+/// is read where it has no block that is due. Memory is taken for what is found.
 pub fn ask<L: Ledger>(
     alloc: Global,
     images: &[Arc<Image>],
@@ -35,6 +35,7 @@ pub fn ask<L: Ledger>(
     requires { not_run (map (λ f. record { head = (arc_value {X = Seen} f).head; rules = (arc_value {X = Seen} f).rules }) images.now) ≡ None }
     ensures rows { IfOk result (λ rows. rows.items ≡ answer_over query.now (map arc_value images.now)) }
     ensures steps { steps.new ≤ steps.old + due_over query.now (map arc_value images.now) }
+    ensures read { OnOk result (steps.new ≡ steps.old + due_over query.now (map arc_value images.now)) }
 {
     are_images(images);
     let key = name_key(alloc, query)?;
@@ -75,6 +76,7 @@ fn gather<L: Ledger>(
     requires { key.now ≡ key_of query.now }
     ensures found { IfOk result (λ found. found.items ≡ found_over query.now (map arc_value images.now)) }
     ensures steps { steps.new ≤ steps.old + due_over query.now (map arc_value images.now) }
+    ensures read { OnOk result (steps.new ≡ steps.old + due_over query.now (map arc_value images.now)) }
 {
     let mut found = Vec::new(alloc);
     let mut rest = images;
@@ -98,6 +100,7 @@ fn put_found<L: Ledger>(
     requires { key.now ≡ key_of query.now }
     ensures found { OnOk result (found.new.items ≡ found.old.items ++ filter (untouched_by (map overlay_of (map arc_value later.now))) (found_in query.now image.now)) }
     ensures steps { steps.new ≤ steps.old + due_in query.now (parts_of image.now) }
+    ensures read { OnOk result (steps.new ≡ steps.old + due_in query.now (parts_of image.now)) }
 {
     let mut hits = hits_of(image, query, key);
     drain(alloc, found, &mut hits, later, steps)
@@ -113,6 +116,7 @@ fn drain<L: Ledger>(
 ) -> Mem<()>
     ensures found { OnOk result (found.new.items ≡ found.old.items ++ filter (untouched_by (map overlay_of (map arc_value later.now))) (hits_left hits.old)) }
     ensures steps { steps.new ≤ steps.old + blocks_left hits.old }
+    ensures read { OnOk result (steps.new ≡ steps.old + blocks_left hits.old) }
 {
     while let Some(hit) = hits.next(steps) {
         put_hit(alloc, found, &hit, later)?;

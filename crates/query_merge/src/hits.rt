@@ -1,7 +1,9 @@
 //! What a question finds in one file, hit by hit.
 
-ghost use Rattle.std.specs.Prelude.{◌≡◌, ◌≤◌, ◌∷◌, ◌+◌, [], length, IfOk, MatchOption};
+ghost use Rattle.std.specs.Prelude.{◌≡◌, ◌∷◌, ◌+◌, [], length, IfOk, MatchOption};
 ghost use Rattle.live_model.specs.Records.{record_id};
+ghost use Rattle.boxed_read.specs.Filters.{no_hits};
+ghost use Rattle.boxed_read.specs.Steps.{nothing_left};
 ghost use Rattle.query_merge.specs.Hits.{addresses_left, blocks_left, hits_left, record_of, road_blocks, road_hits, roads_left};
 
 use addr_read::FoundCursor;
@@ -87,8 +89,8 @@ pub(crate) struct RoadsAndBans<'a> {
 impl<'a> Hits<'a> {
     /// The next hit, or `None` where none is left. A step is counted for each block that is read for it.
     pub(crate) fn next<L: Ledger>(&mut self, steps: &mut Steps<L>) -> Option<Hit<'a>>
-        ensures first { MatchOption result (hits_left self.old ≡ []) (λ hit. hits_left self.old ≡ record_of hit ∷ hits_left self.new) }
-        ensures steps { steps.new + blocks_left self.new ≤ steps.old + blocks_left self.old }
+        ensures first { MatchOption result ((hits_left self.old ≡ []) × (blocks_left self.new ≡ 0)) (λ hit. hits_left self.old ≡ record_of hit ∷ hits_left self.new) }
+        ensures steps { steps.new + blocks_left self.new ≡ steps.old + blocks_left self.old }
     {
         match self {
             Hits::Maps(hits) => match hits.next(steps) {
@@ -110,8 +112,8 @@ fn next_address<'a, L: Ledger>(
     hits: &mut FoundCursor<'a, 'a>,
     steps: &mut Steps<L>,
 ) -> Option<Hit<'a>>
-    ensures first { MatchOption result (addresses_left hits.old ≡ []) (λ hit. addresses_left hits.old ≡ record_of hit ∷ addresses_left hits.new) }
-    ensures steps { steps.new + length hits.new.blocks ≤ steps.old + length hits.old.blocks }
+    ensures first { MatchOption result ((addresses_left hits.old ≡ []) × (hits.new ≡ nothing_left)) (λ hit. addresses_left hits.old ≡ record_of hit ∷ addresses_left hits.new) }
+    ensures steps { steps.new + length hits.new.blocks ≡ steps.old + length hits.old.blocks }
 {
     match hits.next(steps) {
         Some(view) => Some(Hit::Addr(view)),
@@ -122,8 +124,8 @@ fn next_address<'a, L: Ledger>(
 impl<'a> RoadsAndBans<'a> {
     /// The next hit: a road, and where none is left a turn restriction.
     fn next<L: Ledger>(&mut self, steps: &mut Steps<L>) -> Option<Hit<'a>>
-        ensures first { MatchOption result (roads_left self.old ≡ []) (λ hit. roads_left self.old ≡ record_of hit ∷ roads_left self.new) }
-        ensures steps { steps.new + road_blocks self.new ≤ steps.old + road_blocks self.old }
+        ensures first { MatchOption result ((roads_left self.old ≡ []) × (road_blocks self.new ≡ 0)) (λ hit. roads_left self.old ≡ record_of hit ∷ roads_left self.new) }
+        ensures steps { steps.new + road_blocks self.new ≡ steps.old + road_blocks self.old }
     {
         if let Some(view) = next_road(&mut self.roads, steps) {
             return Some(Hit::Road(view));
@@ -141,8 +143,8 @@ fn next_road<'a, L: Ledger>(
     roads: &mut Option<RoadHits<'a>>,
     steps: &mut Steps<L>,
 ) -> Option<View<'a, RoadClass>>
-    ensures first { MatchOption result ((road_hits roads.old).records ≡ []) (λ view. (road_hits roads.old).records ≡ view ∷ (road_hits roads.new).records) }
-    ensures steps { steps.new + (road_hits roads.new).blocks ≤ steps.old + (road_hits roads.old).blocks }
+    ensures first { MatchOption result (((road_hits roads.old).records ≡ []) × (road_hits roads.new ≡ no_hits)) (λ view. (road_hits roads.old).records ≡ view ∷ (road_hits roads.new).records) }
+    ensures steps { steps.new + (road_hits roads.new).blocks ≡ steps.old + (road_hits roads.old).blocks }
 {
     match roads {
         Some(roads) => roads.next(steps),

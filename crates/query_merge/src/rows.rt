@@ -1,14 +1,11 @@
 //! The rows of records that were found.
 
-ghost use Rattle.std.specs.Prelude.{◌≡◌, ◌++◌, ◌∷◌, [], List, flat_map, true, IfOk, OnOk};
-ghost use Rattle.std.specs.List.{AllByRecursion};
-ghost use Rattle.live_model.specs.declared.rules.Rule.{Rule};
+ghost use Rattle.std.specs.Prelude.{◌≡◌, ◌++◌, ◌∷◌, [], flat_map, IfOk, OnOk};
 ghost use Rattle.live_model.specs.declared.rows.Row.TheVariants.{Seg as SegmentRow};
-ghost use Rattle.live_model.specs.Maps.{answer, meets, row_if, segment, segments_in};
-ghost use Rattle.live_model.specs.Points.{overlaps};
-ghost use Rattle.map_laws.specs.Laws.{gives_rows};
+ghost use Rattle.live_model.specs.Maps.{meets, row_if, segment, segments_in};
 ghost use Rattle.query_merge.specs.Rows.{rows_found};
 
+use boxed_read::overlaps;
 use live_model::{Query, Rec, Rect, RoadNode, RoadRec, Row, SegRow};
 use owned_data::Mem;
 use std::alloc::Global;
@@ -16,14 +13,6 @@ use std::alloc::Global;
 /// The rows of records each of which gives some to the question, in their order: a record becomes its row, and of a road each segment that meets
 /// the rectangle becomes one.
 pub fn rows_of(alloc: Global, records: Vec<Rec>, query: &Query) -> Mem<Vec<Row>>
-    ensures { IfOk result (λ found. (rules : List Rule) → AllByRecursion (λ r. gives_rows rules query.now r ≡ true) records.items → found.items ≡ answer rules query.now records.items) }
-{
-    let found = all_rows(alloc, records, query)?;
-    Ok(found)
-}
-
-/// The rows of each record in turn, as if it gave some.
-fn all_rows(alloc: Global, records: Vec<Rec>, query: &Query) -> Mem<Vec<Row>>
     ensures { IfOk result (λ found. found.items ≡ flat_map (rows_found query.now) records.items) }
 {
     let mut found = Vec::new(alloc);
@@ -79,7 +68,7 @@ fn put_segment(
 ) -> Mem<()>
     ensures { OnOk result (found.new.items ≡ found.old.items ++ row_if (meets rect.now (a.now.point ∷ b.now.point ∷ [])) (SegmentRow (segment road.now index a.now b.now))) }
 {
-    if !overlap(&Rect::of_point(&a.point).with_point(&b.point), rect) {
+    if !overlaps(&Rect::of_point(&a.point).with_point(&b.point), rect) {
         return Ok(());
     }
     let value = road.value.copy(alloc)?;
@@ -92,14 +81,4 @@ fn put_segment(
         value,
     }))?;
     Ok(())
-}
-
-/// Whether the two share a point; edges count.
-fn overlap(one: &Rect, other: &Rect) -> bool
-    ensures { result ≡ overlaps one.now other.now }
-{
-    one.left <= other.right
-        && other.left <= one.right
-        && one.top <= other.bottom
-        && other.top <= one.bottom
 }

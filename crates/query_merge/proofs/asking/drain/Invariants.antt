@@ -1,4 +1,4 @@
-use Rattle.std.proofs.Common.{◌≡◌, ◌≤◌, ◌+◌, ◌++◌, length, map}
+use Rattle.std.proofs.Common.{◌≡◌, ◌+◌, ◌++◌, length, map}
 use Rattle.std.specs.Arc.{arc_value}
 use Rattle.std.specs.Prelude.{filter}
 use Rattle.map_laws.specs.Laws.{untouched_by}
@@ -11,7 +11,7 @@ abbrev pub invariant-loop-hit : goal.invariant-loop-hit
 invariant-loop-hit g l = record {
   left : l.found.items ++ filter (untouched_by (map overlay_of (map arc_value l.later))) (hits_left l.hits)
       ≡ l.initial.found.items ++ filter (untouched_by (map overlay_of (map arc_value l.later))) (hits_left l.initial.hits);
-  read : l.steps + blocks_left l.hits ≤ l.initial.steps + blocks_left l.initial.hits;
+  read : l.steps + blocks_left l.hits ≡ l.initial.steps + blocks_left l.initial.hits;
 }
 
 abbrev pub decreases-loop-hit : goal.decreases-loop-hit
