@@ -1,17 +1,21 @@
 -- The laws of sets, with the laws of maps and folds.
-use Rattle.std.proofs.Common.{◌≡◌, ℕ, zero, suc, List, [], ◌∷◌, ◌++◌, Option, Some, None, slice_get, sym, ap, subst, ◌∙◌, arith}
+use Rattle.std.proofs.Common.{◌≡◌, ℕ, zero, suc, List, [], ◌∷◌, ◌++◌, Option, Some, None, slice_get, refl, sym, ap, subst, ◌∙◌, arith}
 use mathlib.Core.List.{IsPrefix}
 use Rattle.std.specs.List.{AllByRecursion}
+use Rattle.live_model.specs.declared.objects.Line.{Line}
+use Rattle.live_model.specs.declared.rules.Rule.{Rule}
 use Rattle.live_model.specs.Objects.{IsGoodLine}
 use Rattle.live_model.specs.Maps.{answer, rebuilt}
 use Rattle.map_laws.proofs.FoldLaws.{fold_is_laid, folds}
 use Rattle.map_laws.proofs.OverlayProof.{history}
 use Rattle.overlay_set.specs.Sets.{Entry, State, lines_of}
-use Rattle.overlay_set.specs.Swaps.{Swap, Add, Replace, applied}
-use Rattle.overlay_set.specs.SetLaws.{AnswerLaw, AreGood, IsGoodSwap, JournalStandsLaw, NumberLaw, ShownLaw, SwapLaw}
+use Rattle.overlay_set.specs.Standing.{Stands}
+use Rattle.overlay_set.specs.Swaps.{Swap, Add, Replace, IsJournal, IsLater, Takes, after, applied}
+use Rattle.overlay_set.specs.SetLaws.{AnswerLaw, AreGood, IsGoodSwap, IsReached, JournalStandsLaw, NumberLaw, ReachedChainLaw, ReachedLaterLaw, ReachedStandsLaw, ShownLaw, SwapLaw}
 use Rattle.overlay_set.specs.Machines.{Event, Publish, Plan, Commit, Take, Ask, Drop, Tell, Shrink, asked, step}
 use Rattle.overlay_set.specs.MachineLaws.{AskLaw, EventsLaw, IsGoodEvent, IsHeld, IsNoPublish, IsSeen, MachineStands, SeenLaw, StayLaw, StepLaw}
 use Rattle.overlay_set.proofs.Answering.{history_stays, rows_law}
+use Rattle.overlay_set.proofs.Later.{later_after}
 use Rattle.overlay_set.proofs.Overlays.{are_overlays}
 use Rattle.overlay_set.proofs.Showing.{shown_law}
 use Rattle.overlay_set.proofs.Stepping.{all_get, events_law, step_law}
@@ -24,7 +28,7 @@ all_with : (history : List Entry) (entry : Entry) → AreGood history → AllByR
 all_with [] entry good fine = (fine, tt)
 all_with (e ∷ es) entry good fine = (good.0, all_with es entry good.1 fine)
 
-goes_on : (s : State) (swap : Swap) → AreGood s.history → IsGoodSwap swap → AreGood (applied s swap).history
+pub goes_on : (s : State) (swap : Swap) → AreGood s.history → IsGoodSwap swap → AreGood (applied s swap).history
 goes_on s (Add entry image) good fine = all_with s.history entry good fine
 goes_on s (Replace plan image) good fine = good
 
@@ -32,6 +36,39 @@ pub journals : JournalStandsLaw
 journals rules base s [] store good fine st journal = st
 journals rules base s (swap ∷ more) store good fine st journal =
     journals rules base (applied s swap) more store (goes_on s swap good fine.0) fine.1 (swaps rules base s swap store good st journal.0) journal.1
+
+-- States that are reached.
+
+pub reached_later : ReachedLaterLaw
+reached_later rules base a b r = subst (IsLater a) (sym r.ends) (later_after a r.swaps)
+
+good_both : (xs ys : List Swap) → AllByRecursion IsGoodSwap xs → AllByRecursion IsGoodSwap ys → AllByRecursion IsGoodSwap (xs ++ ys)
+good_both [] ys fine more = more
+good_both (x ∷ xs) ys fine more = (fine.0, good_both xs ys fine.1 more)
+
+after_both : (s : State) (xs ys : List Swap) → after s (xs ++ ys) ≡ after (after s xs) ys
+after_both s [] ys = refl
+after_both s (x ∷ xs) ys = after_both (applied s x) xs ys
+
+journal_both : (rules : List Rule) (base : List Line) (s : State) (xs ys : List Swap) → IsJournal rules base s xs → IsJournal rules base (after s xs) ys → IsJournal rules base s (xs ++ ys)
+journal_both rules base s [] ys first more = more
+journal_both rules base s (x ∷ xs) ys first more = (first.0, journal_both rules base (applied s x) xs ys first.1 more)
+
+pub reached_chain : ReachedChainLaw
+reached_chain rules base a b c p q = record {
+  swaps = p.swaps ++ q.swaps;
+  good = good_both p.swaps q.swaps p.good q.good;
+  journal = journal_both rules base a p.swaps q.swaps p.journal (subst (λ (s : State). IsJournal rules base s q.swaps) p.ends q.journal);
+  ends = q.ends ∙ ap (λ (s : State). after s q.swaps) p.ends ∙ sym (after_both a p.swaps q.swaps);
+}
+
+good_after : (s : State) (swaps : List Swap) → AreGood s.history → AllByRecursion IsGoodSwap swaps → AreGood (after s swaps).history
+good_after s [] good fine = good
+good_after s (swap ∷ more) good fine = good_after (applied s swap) more (goes_on s swap good fine.0) fine.1
+
+pub reached_stands : ReachedStandsLaw
+reached_stands rules base a b store good st r =
+    subst (λ (s : State). Stands rules base s × AreGood s.history) (sym r.ends) (journals rules base a r.swaps store good r.good st r.journal, good_after a r.swaps good r.good)
 
 pub numbers : NumberLaw
 numbers rules base s st few = omega (arith, st.light)

@@ -37,6 +37,21 @@ abbrev pub IsGoodSwap : Swap → Type 0
 IsGoodSwap (Add entry image) = AllByRecursion IsGoodLine entry.lines
 IsGoodSwap (Replace plan image) = Unit {0}
 
+-- swaps with good lines that may come, one after another, lead from a to b
+pub record IsReached (rules : List Rule) (base : List Line) (a b : State) : Type 0 where
+  pub swaps : List Swap
+  pub good : AllByRecursion IsGoodSwap swaps
+  pub journal : IsJournal rules base a swaps
+  pub ends : b ≡ after a swaps
+
+-- a state that is reached is a later one
+abbrev pub ReachedLaterLaw : Type 0
+ReachedLaterLaw = (rules : List Rule) (base : List Line) (a b : State) → IsReached rules base a b → IsLater a b
+
+-- what is reached from a state that was reached is reached
+abbrev pub ReachedChainLaw : Type 0
+ReachedChainLaw = (rules : List Rule) (base : List Line) (a b c : State) → IsReached rules base a b → IsReached rules base b c → IsReached rules base a c
+
 -- the base alone stands
 abbrev pub OpeningLaw : Type 0
 OpeningLaw = (rules : List Rule) (base : List Line) → Stands rules base (opening rules base)
@@ -50,6 +65,11 @@ SwapLaw = (rules : List Rule) (base : List Line) (s : State) (swap : Swap) → I
 abbrev pub JournalStandsLaw : Type 0
 JournalStandsLaw = (rules : List Rule) (base : List Line) (s : State) (swaps : List Swap) → IsStore (apply [] base) → AreGood s.history
     → AllByRecursion IsGoodSwap swaps → Stands rules base s → IsJournal rules base s swaps → Stands rules base (after s swaps)
+
+-- and so does each state that is reached from it, and its lines are good
+abbrev pub ReachedStandsLaw : Type 0
+ReachedStandsLaw = (rules : List Rule) (base : List Line) (a b : State) → IsStore (apply [] base) → AreGood a.history → Stands rules base a
+    → IsReached rules base a b → Stands rules base b × AreGood b.history
 
 -- the plan of what is foldable fits
 abbrev pub PlanLaw : Type 0

@@ -17,7 +17,7 @@
 
 mod events;
 
-ghost use Rattle.overlay_set.specs.SetLaws.{AnswerLaw, FitsLaterLaw, FullLaw, JournalLaw, JournalStandsLaw, LaterChainLaw, LaterSelfLaw, NumberLaw, OpeningLaw, PlanLaw, SameAgeLaw, SettledLaw, ShapedLaw, ShownLaw, ShrinkLaw, SwapLaw};
+ghost use Rattle.overlay_set.specs.SetLaws.{AnswerLaw, FitsLaterLaw, FullLaw, JournalLaw, JournalStandsLaw, LaterChainLaw, LaterSelfLaw, NumberLaw, OpeningLaw, PlanLaw, ReachedChainLaw, ReachedLaterLaw, ReachedStandsLaw, SameAgeLaw, SettledLaw, ShapedLaw, ShownLaw, ShrinkLaw, SwapLaw};
 ghost use Rattle.overlay_set.specs.Loose.{HeadsLaw};
 ghost use Rattle.overlay_set.specs.MachineLaws.{AskLaw, EventsLaw, OpenedLaw, SeenLaw, StayLaw, StepLaw};
 
@@ -30,6 +30,14 @@ pub fn later_is_an_order()
     ensures chain { LaterChainLaw }
     ensures journal { JournalLaw }
     ensures age { SameAgeLaw }
+{}
+
+/// That a set which swaps with good lines lead to from another, each of which may come, is later than it, and that what is
+/// reached from such a set is reached from the first; and that such a set stands, where the first does and its lines are good.
+pub fn sets_are_reached()
+    ensures later { ReachedLaterLaw }
+    ensures chain { ReachedChainLaw }
+    ensures stands { ReachedStandsLaw }
 {}
 
 /// That a set stands from the beginning, after each swap that may come, and after a journal; and that no number of a file of
