@@ -1,6 +1,6 @@
 -- Files that were written of a history and read are its base and its overlays.
 use Rattle.std.proofs.Common.{◌≡◌, ◌+◌, ◌<◌, ℕ, Bool, true, false, List, [], ◌∷◌, ◌++◌, map, not, Option, Some, None, refl, sym, ap, ap₂, subst, ◌∙◌, arith}
-use Rattle.std.specs.Prelude.{bytes_eq, if◌then◌else◌, nat_lt, ◌==◌}
+use Rattle.std.specs.Prelude.{if◌then◌else◌, ◌==◌}
 use Rattle.std.specs.List.{AllByRecursion}
 use Rattle.std.specs.Ordering.{nat_cmp}
 use Rattle.std.specs.declared.cmp.Ordering.TheVariants.{Less}
@@ -13,11 +13,10 @@ use Rattle.live_model.specs.declared.levels.Level.TheVariants.{Base, Hour, Day, 
 use Rattle.live_model.specs.declared.objects.Entity.{Entity}
 use Rattle.live_model.specs.declared.objects.Line.{Line}
 use Rattle.live_model.specs.declared.queries.Query.{Query}
-use Rattle.live_model.specs.declared.records.Rec.{Rec}
 use Rattle.live_model.specs.declared.rules.Rule.{Rule}
 use Rattle.live_model.specs.Ids.{Id, IsId, ordinal}
 use Rattle.live_model.specs.Levels.{level_number}
-use Rattle.live_model.specs.Maps.{Overlay, answer, laid, map_of, overlay, published, rebuilt}
+use Rattle.live_model.specs.Maps.{Overlay, answer, laid, overlay, published, rebuilt}
 use Rattle.live_model.specs.MapLaws.{overlays}
 use Rattle.live_model.specs.Objects.{IsGoodLine}
 use Rattle.live_model.specs.Rules.{rules_text}
@@ -27,21 +26,20 @@ use Rattle.map_laws.proofs.Picks.{lower}
 use Rattle.stamp_core.specs.Heads.{FitsLevel}
 use Rattle.stamp_core.specs.Hours.{CivilHour, number_of}
 use Rattle.file_grammar.specs.declared.parts.Version.TheVariants.{Two}
-use Rattle.file_grammar.specs.Files.{HeadNumbers, file_records, head_numbers, hour_number, whole}
-use Rattle.file_grammar.specs.Readings.{IsInMemory}
+use Rattle.file_grammar.specs.Files.{HeadNumbers, file_records, head_numbers, hour_number}
 use Rattle.file_grammar.specs.Sections.{object_of}
 use Rattle.file_grammar.proofs.FileLaws.{one_parts_law}
 use Rattle.file_order.specs.declared.kinds.NotRun.{NotRun}
-use Rattle.file_order.specs.Runs.{Placed, all_asked, first_failing, is_after, is_base, has_rules_of, not_run}
+use Rattle.file_order.specs.Runs.{Placed, all_asked, first_failing, is_after, not_run}
 use Rattle.boxed_laws.proofs.ObjectNumbers.{object_again}
-use Rattle.obf_reader.specs.Images.{IsImage, Seen}
+use Rattle.obf_reader.specs.Images.{Seen}
 use Rattle.obf_reader.specs.Overlays.{overlay_of, records_in}
 use Rattle.obf_reader.proofs.Overlays.{records_are}
 use Rattle.packed_image.proofs.HeldParts.{file_there}
 use Rattle.query_merge.specs.Questions.{answer_over}
 use Rattle.query_merge.proofs.Gathering.{history_answer_law}
 use Rattle.run_model.specs.Jobs.{Parts, base_parts, hour_parts}
-use Rattle.map_history.specs.Written.{AnswersAsRebuilt, AreFilesOfChanges, AreOfHistory, Change, FollowOneAnother, IsFileOf, IsHistory, IsRead, lines_of}
+use Rattle.map_history.specs.Written.{AnswersAsRebuilt, AreFilesOfChanges, AreOfHistory, Change, IsFileOf, IsRead, lines_of}
 
 -- ---- one image
 
@@ -174,7 +172,8 @@ after_none last changes none = subst (λ (o : Option CivilHour). AreAfter o chan
     all [] = tt
     all (c ∷ cs) = (λ first e. refl, all cs)
 
-follow_for : (rules : List Rule) (base : List Line) (changes : List Change) (images : List Seen) → AllByRecursion IsRead images → AreOfHistory rules base changes images → not_run (map placed_of images) ≡ None
+-- images with the files of a history follow one another
+pub follow_for : (rules : List Rule) (base : List Line) (changes : List Change) (images : List Seen) → AllByRecursion IsRead images → AreOfHistory rules base changes images → not_run (map placed_of images) ≡ None
 follow_for rules base changes [] read h = absurd h.files
 follow_for rules base changes (first ∷ later) read h =
     let b = read_back first (base_parts rules (apply [] base)) read.0 h.files.0 in
@@ -182,10 +181,7 @@ follow_for rules base changes (first ∷ later) read h =
     let none : first.head.last ≡ None = no_last first.head.level first.head.first first.head.last read.0.0.holds.head.1 level in
     one _ _ _ (ap (λ (n : ℕ). n == 0) level) (follows rules base first b.rules 1 first [] changes later read.1 h.history.rising (after_none first.head.last changes none) h.files.1)
 
--- ---- the two laws
-
-pub they_follow : (images : List Seen) → AllByRecursion IsRead images → FollowOneAnother images
-they_follow images read = λ rules base changes h. follow_for rules base changes images read h
+-- ---- and answer
 
 pub they_answer : (images : List Seen) → AllByRecursion IsRead images → AnswersAsRebuilt images
 they_answer images read = λ rules base changes query h. answers_for rules base changes images query read h

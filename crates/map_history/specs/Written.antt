@@ -1,5 +1,5 @@
 -- The files of a base and of changes, and what is to hold of them.
-use Rattle.std.specs.Prelude.{◌≡◌, ℕ, List, [], ◌∷◌, ◌++◌, map, None}
+use Rattle.std.specs.Prelude.{◌≡◌, ℕ, List, [], ◌∷◌, ◌++◌, map}
 use Rattle.std.specs.List.{AllByRecursion}
 use Rattle.std.specs.Ordering.{nat_cmp}
 use Rattle.ordered_lists.specs.Ordered.{IsRisingBy}
@@ -12,7 +12,6 @@ use Rattle.live_model.specs.Stores.{apply}
 use Rattle.stamp_core.specs.Hours.{CivilHour, number_of}
 use Rattle.file_grammar.specs.Files.{head_numbers, whole}
 use Rattle.file_grammar.specs.Readings.{IsInMemory}
-use Rattle.file_order.specs.Runs.{not_run}
 use Rattle.obf_reader.specs.Images.{IsImage, Seen}
 use Rattle.obf_writer.specs.PackedFile.{IsPackedFile}
 use Rattle.query_merge.specs.Questions.{answer_over}
@@ -64,13 +63,7 @@ pub record AreOfHistory (rules : List Rule) (base : List Line) (changes : List C
   pub history : IsHistory base changes
   pub files : AreFilesOf rules base changes (map (λ i. i.bytes) images)
 
--- where they are, they follow one another
-abbrev pub FollowOneAnother : List Seen → Type 0
-FollowOneAnother images =
-    (rules : List Rule) (base : List Line) (changes : List Change) → AreOfHistory rules base changes images
-    → not_run (map (λ i. record { head = i.head; rules = i.rules }) images) ≡ None
-
--- and they answer as the map made anew
+-- where they are, they answer as the map made anew
 abbrev pub AnswersAsRebuilt : List Seen → Type 0
 AnswersAsRebuilt images =
     (rules : List Rule) (base : List Line) (changes : List Change) (query : Query) → AreOfHistory rules base changes images
