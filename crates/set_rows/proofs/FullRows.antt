@@ -27,7 +27,7 @@ full_refused : (limits : Limits) (rules : List Rule) (base : List Line) (s : Sta
     → refused limits rules base s stamp ≡ Some (FilesFull (length s.history))
 full_refused limits rules base s stamp in_time room full none =
     ap (λ (o : Option Reply). option_or o (if nat_le limits.entries (length s.history) then Some (HistoryFull (length s.history))
-        else if is_full limits rules base s && is_none (shrinkable s) then Some (FilesFull (length s.history)) else None)) in_time
+    else if is_full limits rules base s && is_none (shrinkable s) then Some (FilesFull (length s.history)) else None)) in_time
     ∙ ap (λ (b : Bool). cond b (Some (HistoryFull (length s.history))) (cond (is_full limits rules base s && is_none (shrinkable s)) (Some (FilesFull (length s.history))) None)) room
     ∙ ap₂ (λ (b : Bool) (o : Option Period). cond (b && is_none o) (Some (FilesFull (length s.history))) None) full none
 
