@@ -1,6 +1,8 @@
 -- A set with one publication and one file more.
 use Rattle.std.proofs.Common.{◌≡◌, ℕ, ◌+◌, ◌<◌, ◌≤◌, IsTrue, Bool, true, false, ◌&&◌, nat_lt, ◌^◌, ◌-◌, Option, Some, None, List, [], ◌∷◌, ◌++◌, length, map, refl, sym, ap, ap₂, subst, ◌∙◌, arith}
+use Rattle.std.specs.List.{AllByRecursion}
 use Rattle.live_model.specs.declared.rules.Rule.{Rule}
+use Rattle.live_model.specs.Objects.{IsGoodLine}
 use Rattle.std.proofs.lemmas.Bool.Decides.{nat_tests}
 use Rattle.std.specs.Prelude.{MatchOption, SomeIff}
 use Rattle.obf_reader.specs.Images.{Seen}
@@ -8,6 +10,7 @@ use Rattle.overlay_set.specs.Sets.{Entry, Image, MapFile, age, images_of}
 use Rattle.overlay_set.specs.Standing.{Stands}
 use Rattle.overlay_set.specs.Swaps.{Add, Takes, applied, common_rules}
 use Rattle.overlay_set.proofs.Adding.{stands_add}
+use Rattle.overlay_set.proofs.Laws.{goes_on}
 use Rattle.overlay_set.proofs.Lists.{map-append}
 use Rattle.published_set.proofs.Files.{files_length, seen_length}
 use Rattle.published_set.specs.declared.entry.Published.{Published}
@@ -41,14 +44,18 @@ state_added f history p ns xs n x even next =
 first_stays : (files : List MapFile) (new : MapFile) (b : MapFile) (above : List MapFile) → files ≡ b ∷ above → common_rules (images_of (files ++ new ∷ [])) ≡ common_rules (images_of files)
 first_stays files new b above e = ap (λ fs. common_rules (images_of (fs ++ new ∷ []))) e ∙ sym (ap (λ fs. common_rules (images_of fs)) e)
 
-pub added_stands : (set : PublishedSet) (entry : Entry) (image : Image) → IsStanding set → Takes (common_rules (images_of set.state.files)) set.base set.state (Add entry image)
-    → IsStanding (record { base = set.base; state = applied set.state (Add entry image) })
-added_stands set entry image st takes =
-    subst (λ (rules : List Rule). Stands rules set.base (applied set.state (Add entry image))) (sym (first_stays set.state.files (record { number = age set.state + 1; image = image }) _ st.above st.files))
-    (stands_add (common_rules (images_of set.state.files)) set.base set.state entry image st takes)
+pub added_stands : (set : PublishedSet) (entry : Entry) (image : Image) → IsStanding set → AllByRecursion IsGoodLine entry.lines
+    → Takes (common_rules (images_of set.state.files)) set.base set.state (Add entry image) → IsStanding (record { base = set.base; state = applied set.state (Add entry image) })
+added_stands set entry image st fine takes = record {
+  stands = subst (λ (rules : List Rule). Stands rules set.base (applied set.state (Add entry image)))
+      (sym (first_stays set.state.files (record { number = age set.state + 1; image = image }) _ st.stands.above st.stands.files))
+      (stands_add (common_rules (images_of set.state.files)) set.base set.state entry image st.stands takes);
+  good_base = st.good_base;
+  good_history = goes_on set.state (Add entry image) st.good_history fine;
+}
 
 pub small_age : (set : PublishedSet) → IsStanding set → length set.state.history ≤ 65536 → age set.state ≤ 262144
-small_age set st few = omega (arith, st.light)
+small_age set st few = omega (arith, st.stands.light)
 
 -- Room.
 

@@ -119,19 +119,19 @@ set_told whole base s last ns images o n files even many ends told st = go o tol
 
     go : (o : Option (ℕ × ℕ × Level)) → MatchOption o (before_loose whole last (heads_in images) ≡ n) (λ r. IsLooseAt whole last (heads_in images) r.0 r.1 r.2)
         → MatchOption o (loose_period whole s ≡ None) (λ r. IsFoundAt (loose_period whole s) s.files r.0 r.1 r.2)
-    go None none = found_none whole _ base s last st ends (ap (before_loose whole last) heads ∙ none ∙ sym count)
-    go (Some r) at = found_at whole _ base s last r.0 r.1 r.2 st ends (subst (λ (hs : List Head). IsLooseAt whole last hs r.0 r.1 r.2) (sym heads) at)
+    go None none = found_none whole _ base s last st.stands ends (ap (before_loose whole last) heads ∙ none ∙ sym count)
+    go (Some r) at = found_at whole _ base s last r.0 r.1 r.2 st.stands ends (subst (λ (hs : List Head). IsLooseAt whole last hs r.0 r.1 r.2) (sym heads) at)
 
 -- nothing is foldable exactly where the files have the settled shape
 pub settled_told : (set : PublishedSet) (o : Option (ℕ × ℕ × Level)) (b : Bool) → is_some o ≡ not b → IsStanding set
     → MatchOption o (foldable set.state ≡ None) (λ r. IsFoundAt (foldable set.state) set.state.files r.0 r.1 r.2)
     → (IsTrue b → images_of set.state.files ≡ shape (rules_of set) set.base set.state.history) × (images_of set.state.files ≡ shape (rules_of set) set.base set.state.history → IsTrue b)
-settled_told set None true is st none = (λ _. settled_law (rules_of set) set.base set.state st none, λ _. refl)
+settled_told set None true is st none = (λ _. settled_law (rules_of set) set.base set.state st.stands none, λ _. refl)
 settled_told set None false is st none = absurd cc
 settled_told set (Some r) true is st found = absurd cc
 settled_told set (Some r) false is st found = (
   λ t. absurd (true_false (sym t)),
-  λ shaped. absurd (some_none found.period (sym found.is ∙ shaped_law (rules_of set) set.base set.state st shaped)),
+  λ shaped. absurd (some_none found.period (sym found.is ∙ shaped_law (rules_of set) set.base set.state st.stands shaped)),
 )
   where
     true_false : true ≡ false → ⊥

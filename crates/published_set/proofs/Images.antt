@@ -13,10 +13,11 @@ use Rattle.file_grammar.specs.declared.parts.Part.TheVariants.{File}
 use Rattle.file_grammar.proofs.SpelledIsRead.{spelled_is_read}
 use Rattle.file_grammar.specs.Readings.{IsInMemory, message_at}
 use Rattle.obf_reader.specs.Images.{IsImage, Seen}
+use Rattle.obf_reader.specs.Overlays.{records_in, records_of, records_read}
 use Rattle.obf_reader.specs.Spread.{read_file}
 use Rattle.obf_reader.proofs.Images.{file_of}
 use Rattle.boxed_laws.proofs.ObjectNumbers.{ordinal_again}
-use Rattle.published_set.specs.Images.{IsItsFile, image_of, records_in, records_of, records_read}
+use Rattle.published_set.specs.Images.{IsItsFile, image_of}
 
 ordinals_at : (marks : List ℕ) → list_all is_ordinal marks ≡ true → map ordinal (map object_of marks) ≡ marks
 ordinals_at [] all = refl
@@ -26,16 +27,16 @@ ordinals_at (n ∷ ns) all =
 
 -- the records are those that are found by reading the bytes
 records_are : (bytes : List ℕ) (version : Version) (head : HeadNumbers) (rules : List Rule) (marks : List ℕ) (records : List Rec) → IsInMemory (whole bytes) → version ≡ version_of bytes
-    → IsFile bytes version head rules marks records → records ≡ records_of bytes
-unfolding records_of
+    → IsFile bytes version head rules marks records → records ≡ records_in bytes
+unfolding records_in
 records_are bytes version head rules marks records memory own f =
     let read : read_file bytes ≡ Ok f.fields =
     ap (λ (v : Version). message_at (File v) (whole bytes)) (sym own) ∙ spelled_is_read f.fields (File version) None (whole bytes) memory f.form.form f.form.spelled in
-    f.records_are ∙ sym (ap records_read read ∙ ap records_in f.parts_are)
+    f.records_are ∙ sym (ap records_read read ∙ ap records_of f.parts_are)
 
 pub its_file : (image : Seen) → IsImage image → IsInMemory (whole image.bytes) → IsItsFile image (image_of image)
 its_file image i memory =
     let f = file_of image i memory in
-    subst (λ (marks : List ℕ). IsFile image.bytes image.version (head_numbers image.head) image.rules marks (records_of image.bytes)) (sym (ordinals_at image.marks i.marks.0))
+    subst (λ (marks : List ℕ). IsFile image.bytes image.version (head_numbers image.head) image.rules marks (records_in image.bytes)) (sym (ordinals_at image.marks i.marks.0))
     (subst (λ (records : List Rec). IsFile image.bytes image.version (head_numbers image.head) image.rules image.marks records)
     (records_are image.bytes image.version (head_numbers image.head) image.rules image.marks f.records memory i.holds.version f.file) f.file)

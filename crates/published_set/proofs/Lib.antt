@@ -4,3 +4,4 @@ pub mod Heads
 pub mod Adding
 pub mod Replacing
 pub mod Absorbing
+pub mod Moving

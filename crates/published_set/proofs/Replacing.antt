@@ -6,12 +6,12 @@ use Rattle.std.proofs.lemmas.Bool.Decides.{nat_tests}
 use Rattle.std.proofs.lemmas.List.{length-drop, length-take}
 use Rattle.live_model.specs.declared.rules.Rule.{Rule}
 use Rattle.live_model.specs.Stores.{IsStore, apply}
+use Rattle.map_laws.proofs.OverlayProof.{applied_store}
 use Rattle.obf_reader.specs.Images.{Seen}
 use Rattle.overlay_set.specs.Sets.{Image, MapFile, State, age, base_image, images_of, numbers_of}
 use Rattle.overlay_set.specs.Standing.{Stands}
 use Rattle.overlay_set.specs.Swaps.{FoldPlan, Fits, Replace, applied, begins_with, common_rules, fold_image, is_run, missing, replaced}
 use Rattle.overlay_set.specs.Machines.{with_fold}
-use Rattle.overlay_set.specs.SetLaws.{AreGood}
 use Rattle.overlay_set.proofs.Laws.{swaps}
 use Rattle.published_set.specs.Images.{image_of}
 use Rattle.published_set.specs.Runs.{before_run, begins_run, first_missing}
@@ -167,9 +167,12 @@ put_length from to x xs le inside = omega (arith, length-append (take from xs) (
 -- The set.
 
 -- the base stays first
-rules_stay : (set : PublishedSet) (plan : FoldPlan) (image : Image) → IsStanding set → Fits plan set.state → common_rules (images_of (applied set.state (Replace plan image)).files) ≡ rules_of set
-rules_stay set plan image st fits = go plan.files refl fits.some fits.given
+pub rules_stay : (set : PublishedSet) (plan : FoldPlan) (image : Image) → IsStanding set → Fits plan set.state → common_rules (images_of (applied set.state (Replace plan image)).files) ≡ rules_of set
+rules_stay set plan image standing fits = go plan.files refl fits.some fits.given
   where
+    st : Stands (rules_of set) set.base set.state
+    st = standing.stands
+
     go : (run : List MapFile) → plan.files ≡ run → plan.files ≢ [] → AllByRecursion (λ f. (0 < f.number) × (f.number ≤ age set.state)) plan.files
         → common_rules (images_of (applied set.state (Replace plan image)).files) ≡ rules_of set
     go [] e some given = absurd (some e)
@@ -184,9 +187,15 @@ rules_stay set plan image st fits = go plan.files refl fits.some fits.given
         first false is lt = refl
         first true is lt = absurd (grind (arith, nat_tests))
 
+-- good base lines make a store
+pub store_of : (set : PublishedSet) → IsStanding set → IsStore (apply [] set.base)
+store_of set st = applied_store [] set.base (record { good = tt; rising = tt }) st.good_base
+
 -- a set stands after a fold that fits has come in
-pub folded_stands : (set : PublishedSet) (plan : FoldPlan) → IsStanding set → Fits plan set.state → missing plan set.state ≡ None → IsStore (apply [] set.base) → AreGood set.state.history
-    → IsStanding (record { base = set.base; state = with_fold plan set.state })
-folded_stands set plan st fits all store good =
-    subst (λ (rules : List Rule). Stands rules set.base (with_fold plan set.state)) (sym (rules_stay set plan (fold_image plan.level (images_of plan.files)) st fits))
-    (swaps (rules_of set) set.base set.state (Replace plan (fold_image plan.level (images_of plan.files))) store good st (fits, all, refl))
+pub folded_stands : (set : PublishedSet) (plan : FoldPlan) → IsStanding set → Fits plan set.state → missing plan set.state ≡ None → IsStanding (record { base = set.base; state = with_fold plan set.state })
+folded_stands set plan st fits all = record {
+  stands = subst (λ (rules : List Rule). Stands rules set.base (with_fold plan set.state)) (sym (rules_stay set plan (fold_image plan.level (images_of plan.files)) st fits))
+      (swaps (rules_of set) set.base set.state (Replace plan (fold_image plan.level (images_of plan.files))) (store_of set st) st.good_history st.stands (fits, all, refl));
+  good_base = st.good_base;
+  good_history = st.good_history;
+}

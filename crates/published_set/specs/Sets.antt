@@ -1,15 +1,17 @@
 -- How a set whose lines and images are shared is seen: as plain records, without their owners.
 use Rattle.std.specs.Prelude.{◌≡◌, ◌⊎◌, ℕ, ◌+◌, ◌≤◌, List, [], ◌∷◌, Bool, Option, Some, drop, length, map, slice_get, slice_range}
-use Rattle.std.specs.List.{prefix_len}
+use Rattle.std.specs.List.{AllByRecursion, prefix_len}
 use Rattle.std.specs.Option.{option_and_then}
 use Rattle.std.specs.Arc.{arc_value}
 use Rattle.live_model.specs.declared.levels.Level.{Level}
 use Rattle.live_model.specs.declared.objects.Line.{Line}
 use Rattle.live_model.specs.declared.rules.Rule.{Rule}
+use Rattle.live_model.specs.Objects.{IsGoodLine}
 use Rattle.overlay_set.specs.Sets.{Entry, Image, MapFile, State, images_of}
 use Rattle.overlay_set.specs.Periods.{Period, files_in, foldable, places_of, shrinkable}
 use Rattle.overlay_set.specs.Standing.{Stands}
 use Rattle.overlay_set.specs.Swaps.{common_rules}
+use Rattle.overlay_set.specs.SetLaws.{AreGood}
 use Rattle.overlay_set.specs.Loose.{before_loose, begins_in, period_before}
 use Rattle.stamp_core.specs.Hours.{CivilHour}
 use Rattle.stamp_core.specs.declared.head.Head.{Head}
@@ -43,9 +45,11 @@ pub record PublishedSet : Type 0 where
 abbrev pub rules_of : PublishedSet → List Rule
 rules_of s = common_rules (images_of s.state.files)
 
--- it stands over its base lines with these rules
-abbrev pub IsStanding : PublishedSet → Type 0
-IsStanding s = Stands (rules_of s) s.base s.state
+-- it stands over its base lines with these rules, and all lines are good
+pub record IsStanding (s : PublishedSet) : Type 0 where
+  pub stands : Stands (rules_of s) s.base s.state
+  pub good_base : AllByRecursion IsGoodLine s.base
+  pub good_history : AreGood s.state.history
 
 -- the period was found, and its files are just those from one index up to another, that one not among them
 pub record IsFoundAt (found : Option Period) (files : List MapFile) (from to : ℕ) (level : Level) : Type 0 where

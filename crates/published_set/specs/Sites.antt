@@ -1,18 +1,34 @@
--- What can be told of a place where folds are planned and committed.
-use Rattle.std.specs.Prelude.{◌≡◌, ◌≢◌, ℕ, ◌+◌, ◌-◌, ◌^◌, min, Option, Some, None, Result, Ok, Err}
+-- What is known of a place where folds are planned and committed.
+use Rattle.std.specs.Prelude.{◌≡◌, ◌≢◌, ℕ, List, ◌+◌, ◌-◌, ◌^◌, min, Option, Some, None, Result, Ok, Err}
+use Rattle.live_model.specs.declared.objects.Line.{Line}
+use Rattle.live_model.specs.declared.rules.Rule.{Rule}
 use Rattle.overlay_set.specs.Sets.{State}
+use Rattle.overlay_set.specs.SetLaws.{IsReached}
 use Rattle.overlay_set.specs.Periods.{foldable}
 use Rattle.overlay_set.specs.Swaps.{FoldPlan, Fits, IsLater, missing}
 use Rattle.overlay_set.specs.Machines.{with_fold}
 use Rattle.published_set.specs.declared.errors.CommitError.{CommitError}
 use Rattle.published_set.specs.declared.errors.CommitError.TheVariants.{NoMemory, Overtaken}
 
--- the state that it saw last, the calls of `plan` that were answered, the commits that were taken, and those that were overtaken
+-- the rules and the base lines of its sets, the state that it saw last, the calls of `plan` that were answered, the commits that
+-- were taken, and those that were overtaken
 pub record Site : Type 0 where
+  pub rules : List Rule
+  pub base : List Line
   pub state : State
   pub plans : ℕ
   pub folds : ℕ
   pub overtaken : ℕ
+
+-- it keeps its rules and base lines, and the state that it sees is reached from the one seen before
+pub record IsMoved (before after : Site) : Type 0 where
+  pub rules : after.rules ≡ before.rules
+  pub base : after.base ≡ before.base
+  pub reached : IsReached before.rules before.base before.state after.state
+
+-- so that state is the same or a later one
+abbrev pub MovedLaw : Type 0
+MovedLaw = (before after : Site) → IsMoved before after → IsLater before.state after.state
 
 -- one more, up to the last value of the type
 abbrev pub raised : ℕ → ℕ
@@ -32,18 +48,18 @@ abbrev pub PlanCounted : {T E : Type 0} → Site → Site → Result T E → Typ
 PlanCounted before after (Ok plan) = AreCounts after (raised before.plans) before.folds before.overtaken
 PlanCounted before after (Err e) = AreCounts after before.plans before.folds before.overtaken
 
--- the fold came in the place of its files, all of which were there, in a state that was the one seen last or a later one
-pub record IsFolded (plan : FoldPlan) (before after : State) : Type 0 where
+-- the fold came in the place of its files, all of which were there, in a state that is reached from the one seen before
+pub record IsFolded (plan : FoldPlan) (before after : Site) : Type 0 where
   pub found : State
-  pub later : IsLater before found
+  pub reached : IsReached before.rules before.base before.state found
   pub all : missing plan found ≡ None
-  pub folded : after ≡ with_fold plan found
+  pub folded : after.state ≡ with_fold plan found
 
 -- why a commit was answered so
-abbrev pub IsAnswered : {T : Type 0} → FoldPlan → State → State → Result T CommitError → Type 0
+abbrev pub IsAnswered : {T : Type 0} → FoldPlan → Site → Site → Result T CommitError → Type 0
 IsAnswered plan before after (Ok done) = IsFolded plan before after
 IsAnswered plan before after (Err NoMemory) = Unit {0}
-IsAnswered plan before after (Err (Overtaken file)) = missing plan after ≡ Some file
+IsAnswered plan before after (Err (Overtaken file)) = missing plan after.state ≡ Some file
 
 -- a commit is counted as it was answered
 abbrev pub CommitCounted : {T : Type 0} → Site → Site → Result T CommitError → Type 0

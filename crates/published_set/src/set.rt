@@ -1,12 +1,12 @@
 //! The set.
 
-ghost use Rattle.std.specs.Prelude.{◌≡◌, ◌↔◌, ◌+◌, ◌≤◌, [], false, true, IfOk, IsTrue, MatchOption, MatchResult, None, OnErr, Some, length, map, slice_range};
+ghost use Rattle.std.specs.Prelude.{◌≡◌, ◌↔◌, ◌+◌, ◌≤◌, false, true, IfOk, IsTrue, MatchOption, MatchResult, None, OnErr, Some, length, map, slice_range};
 ghost use Rattle.std.specs.Arc.{arc_value};
-ghost use Rattle.live_model.specs.Stores.{IsStore, apply};
+ghost use Rattle.std.specs.List.{AllByRecursion};
+ghost use Rattle.live_model.specs.Objects.{IsGoodLine};
 ghost use Rattle.overlay_set.specs.Sets.{age, base_image, greatest, images_of, last_in, numbers_of, opening, stamps_of};
 ghost use Rattle.overlay_set.specs.Swaps.{Add, Fits, Replace, Takes, applied, fold_image, missing};
 ghost use Rattle.overlay_set.specs.Machines.{with_fold};
-ghost use Rattle.overlay_set.specs.SetLaws.{AreGood};
 ghost use Rattle.overlay_set.specs.Periods.{foldable, shape, shrinkable};
 ghost use Rattle.overlay_set.specs.Loose.{loose_period};
 ghost use Rattle.published_set.specs.Images.{image_of};
@@ -58,9 +58,10 @@ impl Model for OverlaySet {
 
 impl OverlaySet {
     /// The set of a base alone, under the number 0, with the lines that the base was made of. It takes room for 65,536 publications
-    /// and 1,024 files; `NoMemory` where that was refused.
+    /// and 1,024 files; `NoMemory` where that was refused. The lines have to be good.
     pub fn new(alloc: Global, base_lines: Arc<Lines>, base: Arc<Image>) -> Mem<OverlaySet>
-        requires { image_of (arc_value base) ≡ base_image (arc_value base).rules (arc_value base_lines) }
+        requires image { image_of (arc_value base) ≡ base_image (arc_value base).rules (arc_value base_lines) }
+        requires good { AllByRecursion IsGoodLine (arc_value base_lines) }
         ensures set { IfOk result (λ set. set ≡ record { base = arc_value base_lines; state = opening (arc_value base).rules (arc_value base_lines) }) }
         ensures standing { IfOk result IsStanding }
     {
@@ -78,11 +79,12 @@ impl OverlaySet {
     }
 
     /// Adds a publication and the hour file of its overlay, which gets the number above the greatest of the set. There has to be
-    /// room for both, the hour has to be later than the last one, and the image has to be that of the overlay of the lines after
-    /// the history, with the rules of the set. It takes no memory.
+    /// room for both, the lines have to be good, the hour has to be later than the last one, and the image has to be that of the
+    /// overlay of the lines after the history, with the rules of the set. It takes no memory.
     pub fn add(&mut self, published: Published, image: Arc<Image>)
         requires standing { IsStanding self.old }
         requires room { IsTrue (has_room self.old.state) }
+        requires good { AllByRecursion IsGoodLine (entry_of published).lines }
         requires takes { Takes (rules_of self.old) self.old.base self.old.state (Add (entry_of published) (image_of (arc_value image))) }
         ensures set { self.new ≡ record { base = self.old.base; state = applied self.old.state (Add (entry_of published) (image_of (arc_value image))) } }
         ensures standing { IsStanding self.new }
@@ -96,15 +98,13 @@ impl OverlaySet {
     ///
     /// `Missing` exactly where a file of the plan is not in the set any more, with the first such number; the set stays as it was,
     /// and the fold is dropped.
-    ///
-    /// A set over a base that makes a store, with good lines alone, goes on to stand.
     pub fn replace(&mut self, work: FoldWork) -> Result<(), Missing>
         requires standing { IsStanding self.old }
         requires fits { Fits work self.old.state }
         ensures cause { MatchResult result (λ _. missing work self.old.state ≡ None) (λ e. missing work self.old.state ≡ Some e.file) }
         ensures set { IfOk result (λ _. self.new ≡ record { base = self.old.base; state = with_fold work self.old.state }) }
         ensures stays { OnErr result (self.new ≡ self.old) }
-        ensures standing { IfOk result (λ _. IsStore (apply [] self.old.base) → AreGood self.old.state.history → IsStanding self.new) }
+        ensures standing { IsStanding self.new }
     {
         match first_missing(work.numbers(), self.numbers.as_slice()) {
             Some(file) => Err(Missing { file }),

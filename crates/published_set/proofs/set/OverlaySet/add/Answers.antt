@@ -7,4 +7,4 @@ use Rattle.published_set.proofs.set.OverlaySet.add.Goals as goal
 
 pub returns-clause-standing : goal.returns-clause-standing
 returns-clause-standing c =
-    subst IsStanding (sym c.append.ensures) (added_stands c.args.self.now (entry_of c.args.published) (image_of (arc_value c.args.image)) c.requires.standing c.requires.takes)
+    subst IsStanding (sym c.append.ensures) (added_stands c.args.self.now (entry_of c.args.published) (image_of (arc_value c.args.image)) c.requires.standing c.requires.good c.requires.takes)

@@ -35,4 +35,4 @@ returns-clause-plan c =
 pub returns-clause-fits : goal.returns-clause-fits
 returns-clause-fits c =
     subst (λ (plan : FoldPlan). Fits plan c.args.self.now.state) (sym (returns-clause-plan c))
-    (loose_fits (rules_of c.args.self.now) c.args.self.now.base c.args.self.now.state c.args.from c.args.to c.args.level c.requires.standing c.requires.found)
+    (loose_fits (rules_of c.args.self.now) c.args.self.now.base c.args.self.now.state c.args.from c.args.to c.args.level c.requires.standing.stands c.requires.found)

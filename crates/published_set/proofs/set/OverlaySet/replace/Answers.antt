@@ -24,9 +24,9 @@ returns-in-None-clause-cause c =
     ∙ ap₂ first_missing (sym c.numbers.ensures) (sym c.as_slice.ensures.value) ∙ sym c.in-None.ensures)
 
 pub returns-in-None-clause-standing : goal.returns-in-None-clause-standing
-returns-in-None-clause-standing c = λ store good.
+returns-in-None-clause-standing c =
     subst IsStanding
     (sym (c.put_fold.ensures
     ∙ ap₂ (λ (names : List ℕ) (image : Image). record { base = c.args.self.now.base; state = with_file names image c.args.self.now.state })
     (c.numbers-in-None.ensures ∙ ap (λ (plan : FoldPlan). numbers_of plan.files) c.into_parts-plan.ensures.plan) c.into_parts-plan.ensures.image))
-    (folded_stands c.args.self.now c.args.work c.requires.standing c.requires.fits (returns-in-None-clause-cause c) store good)
+    (folded_stands c.args.self.now c.args.work c.requires.standing c.requires.fits (returns-in-None-clause-cause c))

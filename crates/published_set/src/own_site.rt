@@ -1,0 +1,93 @@
+//! A set that one owner has for itself, as a place where folds are planned and committed.
+
+ghost use Rattle.std.specs.Prelude.{◌≡◌, IfOk};
+ghost use Rattle.overlay_set.specs.Swaps.{Fits};
+ghost use Rattle.published_set.specs.Sets.{IsStanding, rules_of};
+ghost use Rattle.published_set.specs.Sites.{CommitCounted, IsAnswered, IsMoved, IsPlanned, PlanCounted, Site};
+
+use crate::errors::{CommitError, Missing};
+use crate::plan::{FoldPlan, FoldWork};
+use crate::set::OverlaySet;
+use crate::site::FoldSite;
+use live_model::Mem;
+use std::alloc::Global;
+use std::marker::Model;
+
+/// A set that stands and that nobody else changes, with the counts of a site.
+#[derive(Drop)]
+pub struct OwnSite {
+    set: OverlaySet,
+    plans: u64,
+    folds: u64,
+    overtaken: u64,
+}
+
+impl Model for OwnSite {
+    ghost use Rattle.published_set.specs.Sets.{IsStanding, rules_of};
+    ghost use Rattle.published_set.specs.Sites.{Site};
+
+    ghost Value = { Site };
+
+    ghost view = { λ s. record { rules = rules_of s.set; base = s.set.base; state = s.set.state; plans = s.plans; folds = s.folds; overtaken = s.overtaken } };
+
+    ghost invariant = { λ s. IsStanding s.set };
+}
+
+impl OwnSite {
+    /// The site of a set, with no call counted.
+    pub fn new(set: OverlaySet) -> OwnSite
+        requires { IsStanding set }
+        ensures { result ≡ record { rules = rules_of set; base = set.base; state = set.state; plans = 0; folds = 0; overtaken = 0 } }
+    {
+        OwnSite {
+            set,
+            plans: 0,
+            folds: 0,
+            overtaken: 0,
+        }
+    }
+
+    /// The set, which stands.
+    pub fn into_set(self) -> OverlaySet
+        ensures set { result ≡ record { base = self.base; state = self.state } }
+        ensures rules { rules_of result ≡ self.rules }
+        ensures standing { IsStanding result }
+    {
+        self.set
+    }
+
+    fn planned(&self, alloc: Global) -> Mem<Option<FoldPlan>>
+        ensures { IfOk result (IsPlanned self.now.state) }
+    {
+        match self.set.foldable() {
+            None => Ok(None),
+            Some((from, to, level)) => {
+                let plan = self.set.plan(alloc, from, to, level)?;
+                Ok(Some(plan))
+            }
+        }
+    }
+}
+
+impl FoldSite for OwnSite {
+    ghost site = { λ s. s };
+
+    fn plan(&mut self, alloc: Global) -> Mem<Option<FoldPlan>> {
+        let plan = self.planned(alloc)?;
+        self.plans = self.plans.saturating_add(1);
+        Ok(plan)
+    }
+
+    fn commit(&mut self, _alloc: Global, work: FoldWork) -> Result<(), CommitError> {
+        match self.set.replace(work) {
+            Ok(()) => {
+                self.folds = self.folds.saturating_add(1);
+                Ok(())
+            }
+            Err(Missing { file }) => {
+                self.overtaken = self.overtaken.saturating_add(1);
+                Err(CommitError::Overtaken { file })
+            }
+        }
+    }
+}
