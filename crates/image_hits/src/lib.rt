@@ -4,7 +4,7 @@
 //! does not meet the question's rectangle, and takes no memory.
 //!
 //! The layer above may rely on this: the records of a cursor are exactly those of the image that give rows, each once, in the order of the file; and going to the
-//! end of it takes at most as many steps as blocks are due to the question (`specs/Hits.antt`).
+//! end of it takes just as many steps as blocks are due to the question (`specs/Hits.antt`).
 #![tactic(auto)]
 
 mod hits;
