@@ -1,0 +1,10 @@
+pub mod Collected
+pub mod StableOrder
+pub mod Marking
+pub mod Asked
+pub mod Covering
+pub mod Folded
+pub mod Walking
+pub mod Ended
+pub mod Cutting
+pub mod Sectioned

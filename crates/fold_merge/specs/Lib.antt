@@ -1,0 +1,4 @@
+pub mod Folds
+pub mod Collecting
+pub mod Classes
+pub mod Cuts
