@@ -5,7 +5,7 @@ use Rattle.file_order.specs.declared.kinds.NotRun.{NotRun}
 use Rattle.file_order.specs.Runs.{Placed}
 use Rattle.live_model.specs.Maps.{Overlay}
 use Rattle.obf_reader.specs.Images.{Seen}
-use Rattle.query_merge.specs.Questions.{overlay_of}
+use Rattle.obf_reader.specs.Overlays.{overlay_of}
 use Rattle.outside.specs.Files.{FilesState}
 use Rattle.run_model.specs.Endings.{Ending, misfit, no_memory}
 use Rattle.run_model.specs.Inputs.{Misfit, in_turn, map_files, misfit_of}

@@ -13,7 +13,8 @@ use Rattle.file_grammar.specs.Sections.{object_of}
 use Rattle.hour_words.specs.HourWords.{hour_numbered}
 use Rattle.hour_words.proofs.NamedHours.{hour_back}
 use Rattle.obf_reader.specs.Images.{IsImage, Seen}
-use Rattle.query_merge.specs.Questions.{overlay_of, parts_of, parts_read, records_in, records_of}
+use Rattle.obf_reader.specs.Overlays.{overlay_of, parts_of, records_in, records_of}
+use Rattle.obf_reader.proofs.Overlays.{parts_are, records_of_parts}
 use Rattle.outside.specs.Files.{FilesState, OnlyReads}
 use Rattle.run_model.specs.Endings.{Ending}
 use Rattle.run_model.specs.Inputs.{Input, in_turn, input, map_file, map_files}
@@ -53,15 +54,14 @@ unfolding parts_in parts_of
 parts_same image = refl
 
 parts_there : (image : Seen) (i : IsImage image) → parts_in image.bytes ≡ Some i.holds.parts
-unfolding parts_in
-parts_there image i = ap parts_read i.holds.form ∙ i.holds.are
+parts_there image i = parts_same image ∙ parts_are image i
 
 pub image_held : (image : Seen) → IsImage image → IfSome image.head.first IsCivilHour → IfSome image.head.last IsCivilHour → IsHeld image.bytes image
 image_held image i first last =
     let there = parts_there image i in
     let marks : (map_file_in image.bytes).overlay.marks ≡ map object_of image.marks =
     ap (λ (p : Option FileParts). map object_of (marks_held p)) there ∙ ap (map object_of) (sym i.holds.marks) in
-    let recs : (map_file_in image.bytes).overlay.records ≡ records_of image = ap records_in (parts_same image) in
+    let recs : (map_file_in image.bytes).overlay.records ≡ records_in image.bytes = ap records_of (parts_same image) ∙ sym (records_of_parts image) in
     record {
       bytes_are = refl;
       parts = parts_same image;

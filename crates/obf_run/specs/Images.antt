@@ -3,7 +3,7 @@ use Rattle.std.specs.Prelude.{◌≡◌, ◌++◌, ℕ, List, [], ◌∷◌}
 use Rattle.live_model.specs.declared.rules.Rule.{Rule}
 use Rattle.outside.specs.Files.{FilesState}
 use Rattle.obf_reader.specs.Images.{Seen}
-use Rattle.query_merge.specs.Questions.{overlay_of, parts_of}
+use Rattle.obf_reader.specs.Overlays.{overlay_of, parts_of}
 use Rattle.run_model.specs.Inputs.{in_turn, input, map_file, map_files}
 use Rattle.run_model.specs.MapFiles.{map_file_in, parts_in}
 use Rattle.run_model.specs.Reads.{ReadInOrder, ReadsGood}

@@ -11,8 +11,9 @@ use Rattle.file_grammar.specs.Files.{FileParts, HeadNumbers, rules_in}
 use Rattle.file_grammar.specs.Sections.{object_of}
 use Rattle.file_order.specs.Runs.{Placed}
 use Rattle.hour_words.specs.HourWords.{hour_numbered}
+use Rattle.obf_reader.specs.Overlays.{parts_read, records_of}
 use Rattle.obf_reader.specs.Spread.{read_file}
-use Rattle.query_merge.specs.Questions.{due_in, parts_read, records_in}
+use Rattle.query_merge.specs.Questions.{due_in}
 
 -- Heads.
 
@@ -57,7 +58,7 @@ abbrev pub held_by : Option FileParts → MapFile
 held_by parts = record {
   head = head_held parts;
   rules = rules_held parts;
-  overlay = record { marks = map object_of (marks_held parts); records = records_in parts };
+  overlay = record { marks = map object_of (marks_held parts); records = records_of parts };
 }
 
 -- the parts of the map file that the bytes are
