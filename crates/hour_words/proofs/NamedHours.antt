@@ -33,7 +33,7 @@ number_back c =
     ∙ ap (λ (y : ℕ). y * 1000000 + c.month * 10000 + c.day * 100 + c.hour) year
 
 -- the number of an hour of the calendar is of this hour
-hour_back : (c : CivilHour) → IsCivilHour c → hour_numbered (number_of c) ≡ c
+pub hour_back : (c : CivilHour) → IsCivilHour c → hour_numbered (number_of c) ≡ c
 hour_back c civil =
     let day = day_few c civil in
     let y : number_of c / 1000000 ≡ c.year = omega (arith, day, civil.1.1, civil.3) in

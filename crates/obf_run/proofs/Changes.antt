@@ -32,7 +32,7 @@ use Rattle.obf_run.specs.Changing.{AreMade, ReadsChange}
 -- Files in turn.
 
 -- files that were read, and then others
-read_after : (files rest : List Input) (texts more : List (List ℕ)) (before between after : FilesState) → ReadInOrder before between (in_turn files) texts
+pub read_after : (files rest : List Input) (texts more : List (List ℕ)) (before between after : FilesState) → ReadInOrder before between (in_turn files) texts
     → ReadInOrder between after (in_turn rest) more → ReadInOrder before after (in_turn (files ++ rest)) (texts ++ more)
 read_after [] rest [] more before between after same later = subst (λ (s : FilesState). ReadInOrder s after (in_turn rest) more) same later
 read_after [] rest (t ∷ texts) more before between after first later = absurd first
@@ -41,7 +41,7 @@ read_after (f ∷ files) rest (t ∷ texts) more before between after first late
     (first.0, first.1, read_after files rest texts more first.0 between after first.2 later)
 
 -- files that were read, and an end among others
-ends_after : (files rest : List Input) (texts : List (List ℕ)) (before between after : FilesState) (e : Ending) → ReadInOrder before between (in_turn files) texts
+pub ends_after : (files rest : List Input) (texts : List (List ℕ)) (before between after : FilesState) (e : Ending) → ReadInOrder before between (in_turn files) texts
     → EndsAmong (in_turn rest) between after e → EndsAmong (in_turn (files ++ rest)) before after e
 ends_after [] rest [] before between after e same later = subst (λ (s : FilesState). EndsAmong (in_turn rest) s after e) same later
 ends_after [] rest (t ∷ texts) before between after e first later = absurd first

@@ -1,13 +1,14 @@
 -- The causes of endings: among the files, where an answer was put, and where a file was written.
-use Rattle.std.proofs.Common.{◌≡◌, ℕ, List, Option, Some, None, refl, sym, subst, inl, inr}
+use Rattle.std.proofs.Common.{◌≡◌, ℕ, Bool, true, false, List, Option, Some, None, refl, sym, subst, inl, inr}
+use Rattle.std.specs.Prelude.{IfErr, IfOk, Result, Ok, Err}
 use Rattle.outside.specs.Files.{FilesState}
 use Rattle.outside.specs.Sinks.{SinkState}
 use Rattle.run_model.specs.Endings.{Ending, done, bad_words, too_many_files, refused, misfit, read_fault, write_fault, answer_fault, no_memory, over_limit}
 use Rattle.run_model.specs.Inputs.{Input, Plan, no_more, reads}
 use Rattle.run_model.specs.Jobs.{Outcome, Task, prints}
 use Rattle.run_model.specs.Reads.{EndsAmong, EndsAt}
-use Rattle.run_model.specs.Runs.{Caused, Change, IsNotWritten, IsOutput, IsTooLong, IsWrittenAs, Receives, ReceivesLess, ReceivesNothing, Works, WorksTo, change}
-use Rattle.obf_run.specs.Finishing.{IsFinished, IsPut}
+use Rattle.run_model.specs.Runs.{Caused, CausedWithin, Change, IsNotWritten, IsOutput, IsTooLong, IsWrittenAs, Receives, ReceivesLess, ReceivesNothing, Works, WorksTo, change}
+use Rattle.obf_run.specs.Finishing.{EndsEarly, IsFinished, IsPut}
 
 -- Ended among the files.
 
@@ -30,6 +31,25 @@ ended_caused too_many_files files out task ends nothing = absurd (never too_many
 ended_caused (misfit which) files out task ends nothing = absurd (never (misfit which) (λ file before after now. now) (λ same. cc) task.plan files.before files.after ends)
 ended_caused (write_fault name) files out task ends nothing = absurd (never (write_fault name) (λ file before after now. now) (λ same. cc) task.plan files.before files.after ends)
 ended_caused answer_fault files out task ends nothing = absurd (never answer_fault (λ file before after now. now) (λ same. cc) task.plan files.before files.after ends)
+
+-- ended among the files, or at one that does not follow
+pub early_caused : (e : Ending) (files : Change FilesState) (out : Change SinkState) (task : Task) → EndsEarly e files task → ReceivesNothing out → Caused e files out task
+early_caused e files out task (inl ends) nothing = ended_caused e files out task ends nothing
+early_caused e files out task (inr found) nothing = subst (λ (e : Ending). Caused e files out task) (sym found.1) (found.2, nothing)
+
+-- Too many files.
+
+-- the words name no more files than they may
+pub within_caused : (many : Bool) (e : Ending) (files : Change FilesState) (out : Change SinkState) (task : Task) → many ≡ false → Caused e files out task
+    → CausedWithin many e files out task
+within_caused false e files out task few cause = cause
+within_caused true e files out task few cause = absurd cc
+
+-- they name more, and nothing was done
+pub too_many_caused : (many : Bool) (state : FilesState) (sink : SinkState) (task : Task) → many ≡ true
+    → CausedWithin many too_many_files (change state state) (change sink sink) task
+too_many_caused true state sink task more = (refl, record { same_files = refl; same_out = refl })
+too_many_caused false state sink task more = absurd cc
 
 -- What worked to an outcome, where a fact holds of this outcome.
 worked : (before between : FilesState) (task : Task) (outcome : Outcome) (P : FilesState → Outcome → Type 0) → WorksTo before between task outcome → P between outcome
@@ -102,3 +122,14 @@ finished_caused (refused other first) files between out task name outcome is wor
 finished_caused (misfit which) files between out task name outcome is works finished = absurd finished.1
 finished_caused (read_fault other) files between out task name outcome is works finished = absurd finished.1
 finished_caused no_memory files between out task name outcome is works finished = absurd finished.1
+
+-- Answered, or not.
+
+-- the answer that a verb without an output made was put, or there was none
+pub answer_caused : {A B : Type 0} (made : Result A B) (text : A → List ℕ) (told : B → Ending) (many : Bool) (e : Ending) (files : Change FilesState) (out : Change SinkState) (task : Task)
+    → many ≡ false → task.output ≡ None → IfOk made (λ a. WorksTo files.before files.after task (prints (text a))) → IfErr made (λ b. EndsEarly (told b) files task)
+    → IfOk made (λ a. IsPut e out (text a)) → IfErr made (λ b. (e ≡ told b) × ReceivesNothing out) → CausedWithin many e files out task
+answer_caused (Ok a) text told many e files out task few none works ends put not_put =
+    within_caused many e files out task few (printed_caused e files out task (text a) none works put)
+answer_caused (Err b) text told many e files out task few none works ends put not_put =
+    within_caused many e files out task few (subst (λ (e : Ending). Caused e files out task) (sym not_put.0) (early_caused (told b) files out task ends not_put.1))

@@ -1,12 +1,14 @@
 -- What the last part of a run does: it writes what was made, and puts the answer.
-use Rattle.std.specs.Prelude.{List, ℕ, Some}
+use Rattle.std.specs.Prelude.{◌≡◌, ◌⊎◌, List, ℕ, Some}
 use Rattle.outside.specs.Files.{FilesState}
 use Rattle.outside.specs.Sinks.{SinkState}
 use Rattle.outside.specs.declared.whole.WholeError.{WholeError}
 use Rattle.outside.specs.declared.whole.WholeError.TheVariants as error
-use Rattle.run_model.specs.Endings.{Ending, done, read_fault, write_fault, answer_fault, no_memory, over_limit}
-use Rattle.run_model.specs.Jobs.{Outcome}
-use Rattle.run_model.specs.Runs.{Change, IsNotWritten, IsTooLong, IsWrittenAs, IsOutput, Receives, ReceivesLess, ReceivesNothing}
+use Rattle.run_model.specs.Endings.{Ending, done, misfit, read_fault, write_fault, answer_fault, no_memory, over_limit}
+use Rattle.run_model.specs.Inputs.{Misfit}
+use Rattle.run_model.specs.Jobs.{Outcome, Task}
+use Rattle.run_model.specs.Reads.{EndsAmong}
+use Rattle.run_model.specs.Runs.{Change, FindsMisfit, IsNotWritten, IsTooLong, IsWrittenAs, IsOutput, Receives, ReceivesLess, ReceivesNothing}
 use Rattle.obf_run.specs.declared.packing.Built.{Built}
 
 -- a file that was built, and its line
@@ -32,3 +34,8 @@ abbrev pub unread : List ℕ → WholeError → Ending
 unread name error.NoMemory = no_memory
 unread name error.Failed = read_fault name
 unread name error.OverLimit = over_limit name
+
+-- the run ended among the files, or all are good and one of them does not follow
+abbrev pub EndsEarly : Ending → Change FilesState → Task → Type 0
+EndsEarly e files task =
+    EndsAmong task.plan files.before files.after e ⊎ ((which : Misfit) × (e ≡ misfit which) × FindsMisfit files task which)

@@ -8,8 +8,10 @@
 //! sinks; `run_arguments` answers the code of that ending; `start` only makes the real files and sinks for it.
 #![tactic(auto)]
 
+mod asking;
 mod changing;
 mod file_line;
+mod images;
 mod inputs;
 mod jobs;
 mod packing;

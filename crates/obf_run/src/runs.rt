@@ -1,16 +1,18 @@
 //! The top call.
 
-ghost use Rattle.std.specs.Prelude.{◌≡◌, ◌⊎◌, ◌∷◌, ◌++◌, [], IfErr, IfOk};
+ghost use Rattle.std.specs.Prelude.{◌≡◌, ◌⊎◌, ◌∷◌, ◌++◌, [], Some, IfErr, IfOk};
 ghost use Rattle.run_model.specs.Endings.{NamesFile, ending, no_memory};
 ghost use Rattle.run_model.specs.Jobs.{task_of};
-ghost use Rattle.run_model.specs.Requests.{asked, build, change_map};
-ghost use Rattle.run_model.specs.Runs.{CausedBy, EndsSo, EndsWithCode, IsLinePut, PutsLine, ReceivesNothing, Run, change};
+ghost use Rattle.run_model.specs.Requests.{ask_files, asked, build, change_map};
+ghost use Rattle.run_model.specs.Runs.{CausedBy, EndsSo, EndsWithCode, IsLinePut, PutsLine, ReceivesNothing, Run, StepsFor, change};
 ghost use Rattle.obf_run.specs.Finishing.{IsPut};
 
+use crate::asking::question_answer;
 use crate::changing::changed_file;
+use crate::images::MOST_FILES;
 use crate::jobs::{built_file, check_answer, dump_answer, nodes_answer};
 use crate::packing::{finish, put_answer};
-use live_model::{Steps, Text};
+use live_model::{NoMemory, Query, Steps, Text};
 use outside::{Files, Gate, Sink, put_all};
 use run_model::{Arguments, NO_MEMORY, Name, Request, Status, fixed_line, read_request};
 use stamp_core::Stamp;
@@ -88,12 +90,13 @@ pub fn run_plain<'a, F: Files, K: Sink, E: Sink, L: Ledger>(
       steps = change steps.old steps.new;
     }) }
 {
-    match read_request(words) {
-        Some(request) => {
+    match read_request(alloc, words) {
+        Ok(Some(request)) => {
             let status = answer_request(alloc, request, files, out, steps);
             report(alloc, status, err)
         }
-        None => report(alloc, Status::BadWords, err),
+        Ok(None) => report(alloc, Status::BadWords, err),
+        Err(NoMemory) => report(alloc, Status::NoMemory, err),
     }
 }
 
@@ -105,7 +108,8 @@ fn answer_request<'a, F: Files, K: Sink, L: Ledger>(
     out: &mut K,
     steps: &mut Steps<L>,
 ) -> Status<'a>
-    ensures { CausedBy (ending result) (change (F.state files.old) (F.state files.new)) (change (K.state out.old) (K.state out.new)) (task_of (asked request.entry)) }
+    ensures caused { CausedBy (ending result) (change (F.state files.old) (F.state files.new)) (change (K.state out.old) (K.state out.new)) (task_of (asked request.entry)) }
+    ensures steps { StepsFor (Some (asked request.entry)) (change (F.state files.old) (F.state files.new)) (change steps.old steps.new) }
 {
     match request {
         Request::Nodes { rect, base } => {
@@ -127,6 +131,10 @@ fn answer_request<'a, F: Files, K: Sink, L: Ledger>(
         } => change(
             alloc, rules, base, hour, output, earlier, last, files, out, steps,
         ),
+        Request::Ask {
+            query,
+            files: names,
+        } => ask(alloc, &query, names, files, out, steps),
         Request::Check { file } => print(check_answer(alloc, files, Name::Given(file)), out),
     }
 }
@@ -188,6 +196,24 @@ fn change<'a, F: Files, K: Sink, L: Ledger>(
         Ok(built) => finish(files, Name::Given(output), &built, out),
         Err(status) => status,
     }
+}
+
+/// Answers a question over map files.
+fn ask<'a, F: Files, K: Sink, L: Ledger>(
+    alloc: Global,
+    query: &Query,
+    names: &'a [Text],
+    files: &mut F,
+    out: &mut K,
+    steps: &mut Steps<L>,
+) -> Status<'a>
+    ensures caused { CausedBy (ending result) (change (F.state files.old) (F.state files.new)) (change (K.state out.old) (K.state out.new)) (task_of (ask_files query.now names.now)) }
+    ensures steps { StepsFor (Some (ask_files query.now names.now)) (change (F.state files.old) (F.state files.new)) (change steps.old steps.new) }
+{
+    if names.len() > MOST_FILES {
+        return Status::TooManyFiles;
+    }
+    print(question_answer(alloc, files, query, names, steps), out)
 }
 
 /// Puts the line of the status. Where the line names a file and memory for it is refused, the status becomes `NoMemory`, whose

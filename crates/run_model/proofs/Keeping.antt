@@ -94,7 +94,7 @@ both : (e : Ending) (output : Option (List ℕ)) (files : Change FilesState) (ou
     → out.before.faults ≤ out.after.faults → Keeps e output files out
 both e output files out keeps count = record { writes = keeps.writes; read_faults = keeps.faults; put_faults = count }
 
-untouched_keeps : (e : Ending) (output : Option (List ℕ)) (files : Change FilesState) (out : Change SinkState) → IsUntouched files out → Keeps e output files out
+pub untouched_keeps : (e : Ending) (output : Option (List ℕ)) (files : Change FilesState) (out : Change SinkState) → IsUntouched files out → Keeps e output files out
 untouched_keeps e output files out untouched =
     both e output files out (only_keeps (changed_by e output) files (same_only files.before files.after untouched.same_files)) (same_count out untouched.same_out)
 

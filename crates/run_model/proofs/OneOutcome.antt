@@ -8,7 +8,7 @@ use Rattle.live_model.specs.Stores.{apply}
 use Rattle.stamp_core.specs.Hours.{CivilHour}
 use Rattle.live_model.proofs.TextReadings.{one_reading as one_text}
 use Rattle.tag_rules.proofs.RuleLaw.{one_reading as one_table}
-use Rattle.run_model.specs.Requests.{nodes, dump, build, change_map, check}
+use Rattle.run_model.specs.Requests.{nodes, dump, build, change_map, ask_files, check}
 use Rattle.run_model.specs.Jobs.{AreTexts, IsBuilt, IsChanged, IsPacked, IsStoreOf, OneOutcomeLaw, Outcome, Parts, base_parts, hour_parts}
 
 one_store : (text : List ℕ) (a b : List Entity) → IsStoreOf text a → IsStoreOf text b → a ≡ b
@@ -64,6 +64,7 @@ pub one_outcome : OneOutcomeLaw
 one_outcome (nodes rect base) output texts one other is = absurd cc
 one_outcome (dump base) output texts one other is = absurd cc
 one_outcome (check file) output texts one other is = absurd cc
+one_outcome (ask_files query files) output texts one other is = absurd cc
 one_outcome (build rules base out) output [] one other is = λ a b. absurd a
 one_outcome (build rules base out) output (table ∷ []) one other is = λ a b. absurd a
 one_outcome (build rules base out) output (table ∷ text ∷ []) one other is = λ a b. one_built table text one other a b

@@ -1,14 +1,17 @@
 -- The files that a run reads, in their order, and how each of them breaks.
-use Rattle.std.specs.Prelude.{ℕ, List, [], ◌∷◌, ◌++◌, codes, map, Option, Some, None}
+use Rattle.std.specs.Prelude.{ℕ, List, [], ◌∷◌, ◌++◌, codes, length, map, slice_get, unwrap_or, Option, Some, None}
 use Rattle.std.specs.Option.{option_map}
 use Rattle.std.specs.Fmt.{decimal as printed}
 use Rattle.live_model.specs.OplTexts.{kind_name, text_break}
 use Rattle.live_model.specs.Rules.{rule_kind_name, rules_break}
 use Rattle.obf_wire.specs.Kinds.{file_name as file_kind_name}
 use Rattle.file_grammar.specs.Files.{file_break}
-use Rattle.run_model.specs.Requests.{Asked, nodes, dump, build, change_map, check}
+use Rattle.run_model.specs.MapFiles.{map_files_in, placed_in}
+use Rattle.run_model.specs.Requests.{Asked, nodes, dump, build, change_map, ask_files, check}
 use Rattle.run_model.specs.declared.breaks.Break.{Break}
 use Rattle.run_model.specs.declared.breaks.Break.TheVariants.{InRules, InObjects, InFile}
+use Rattle.file_order.specs.Runs.{not_run}
+use Rattle.file_order.specs.declared.kinds.NotRun.{NotRun}
 use Rattle.file_order.specs.declared.kinds.RunKind.{RunKind}
 
 -- what a file is read as
@@ -40,21 +43,26 @@ in_turn (file ∷ files) = reads file (λ text. in_turn files)
 abbrev pub object_texts : List (List ℕ) → List Input
 object_texts names = map (λ name. input name object_text) names
 
+-- map files of these names
+abbrev pub map_files : List (List ℕ) → List Input
+map_files names = map (λ name. input name map_file) names
+
 -- the files that are read, in order
 abbrev pub plan_of : Asked → Plan
 plan_of (nodes rect base) = in_turn (input base object_text ∷ [])
 plan_of (dump base) = in_turn (input base object_text ∷ [])
 plan_of (build rules base output) = in_turn (input rules rule_table ∷ input base object_text ∷ [])
 plan_of (change_map rules base hour output changes) = in_turn (input rules rule_table ∷ input base object_text ∷ object_texts changes)
+plan_of (ask_files query files) = in_turn (map_files files)
 plan_of (check file) = in_turn (input file map_file ∷ [])
 
 -- the most files that words may name, where a verb takes no more than so many of them
 abbrev pub most_files : ℕ
 most_files = 1024
 
--- How many files the words name, where the verb takes no more than so many of them. No verb does yet: the texts of a change are not
--- counted.
+-- How many files the words name, where the verb takes no more than so many of them. The texts of a change are not counted.
 abbrev pub files_named : Asked → ℕ
+files_named (ask_files query files) = length files
 files_named a = 0
 
 -- the name of the file that is written, where one is
@@ -81,6 +89,16 @@ pub record Misfit : Type 0 where
   pub kind : RunKind
   pub index : ℕ
 
--- The first of good files that does not follow, as their texts tell. Every file of today's verbs stands alone.
+-- the name of the file at this index
+abbrev pub name_at : List (List ℕ) → ℕ → List ℕ
+name_at names index = unwrap_or (slice_get names index) []
+
+-- the misfit among files of these names
+abbrev pub misfit_of : List (List ℕ) → NotRun → Misfit
+misfit_of names told = record { name = name_at names told.index; kind = told.kind; index = told.index }
+
+-- The first of good files that does not follow, as their texts tell: that cannot be laid over those before it. Every file of the other
+-- verbs stands alone.
 abbrev pub misfit_in : Asked → List (List ℕ) → Option Misfit
+misfit_in (ask_files query files) texts = option_map (misfit_of files) (not_run (map placed_in (map_files_in texts)))
 misfit_in a texts = None

@@ -3,11 +3,13 @@ use Rattle.std.specs.Prelude.{◌≡◌, ℕ, List, [], ◌∷◌, ◌++◌, len
 use Rattle.live_model.specs.declared.levels.Level.TheVariants.{Base, Hour}
 use Rattle.live_model.specs.declared.objects.Entity.{Entity}
 use Rattle.live_model.specs.declared.objects.Line.{Line}
+use Rattle.live_model.specs.declared.queries.Query.{Query}
 use Rattle.live_model.specs.declared.records.Rec.{Rec}
+use Rattle.live_model.specs.declared.rows.Row.{Row}
 use Rattle.live_model.specs.declared.rules.Rule.{Rule}
 use Rattle.live_model.specs.CanonicalLines.{lines_text, nodes_in}
 use Rattle.live_model.specs.Ids.{ordinal}
-use Rattle.live_model.specs.Maps.{map_of, overlay, published}
+use Rattle.live_model.specs.Maps.{answer, laid, map_of, overlay, published}
 use Rattle.live_model.specs.OplTexts.{OplText}
 use Rattle.live_model.specs.Rules.{RuleText}
 use Rattle.live_model.specs.Stores.{apply}
@@ -17,8 +19,10 @@ use Rattle.stamp_core.specs.Hours.{CivilHour, IsCivilHour}
 use Rattle.file_grammar.specs.declared.parts.Version.{Version}
 use Rattle.file_grammar.specs.Files.{IsFile, head_numbers}
 use Rattle.obf_writer.specs.PackedFile.{IsPackedFile}
-use Rattle.run_model.specs.Requests.{Asked, nodes, dump, build, change_map, check}
 use Rattle.file_lines.specs.FileLines.{file_line}
+use Rattle.query_text.specs.Lines.{answer_text}
+use Rattle.run_model.specs.Requests.{Asked, nodes, dump, build, change_map, ask_files, check}
+use Rattle.run_model.specs.MapFiles.{MapFile, map_files_in, overlays_in}
 use Rattle.run_model.specs.Inputs.{Misfit, Plan, files_named, misfit_in, output_of, plan_of}
 
 -- what is printed, and the bytes of the file that is written, where one is
@@ -98,6 +102,11 @@ pub record IsChanged (hour : CivilHour) (table text : List ℕ) (texts : List (L
   pub changes : AreTexts texts (earlier ++ last ∷ [])
   pub packed : IsPacked (hour_parts hour rules (published base earlier) last) outcome
 
+-- the rows of a question over the records of the first file, with the others laid over them in order
+abbrev pub rows_over : Query → List MapFile → List Row
+rows_over query [] = []
+rows_over query (base ∷ files) = answer base.rules query (laid base.overlay.records (overlays_in files))
+
 -- the bytes are a map file of some version, and its line is printed
 pub record IsChecked (bytes : List ℕ) (outcome : Outcome) : Type 0 where
   pub version : Version
@@ -116,6 +125,7 @@ Job (nodes rect base) (text ∷ []) outcome = IsAnswered text (λ store. lines_t
 Job (dump base) (text ∷ []) outcome = IsAnswered text lines_text outcome
 Job (build rules base output) (table ∷ text ∷ []) outcome = IsBuilt table text outcome
 Job (change_map rules base hour output changes) (table ∷ text ∷ texts) outcome = IsChanged hour table text texts outcome
+Job (ask_files query files) texts outcome = outcome ≡ prints (answer_text (rows_over query (map_files_in texts)))
 Job (check file) (bytes ∷ []) outcome = IsChecked bytes outcome
 Job asked texts outcome = ⊥
 

@@ -1,4 +1,5 @@
 pub mod Requests
+pub mod MapFiles
 pub mod Inputs
 pub mod Jobs
 pub mod Endings

@@ -1,9 +1,11 @@
 -- The words that the program takes: a verb, and then what this verb takes.
-use Rattle.std.specs.Prelude.{List, ℕ, [], ◌∷◌, ◌++◌, Option, Some, None, codes, if◌then◌else◌}
+use Rattle.std.specs.Prelude.{◌≡◌, List, ℕ, [], ◌∷◌, ◌++◌, Option, Some, None, codes, if◌then◌else◌}
 use Rattle.std.specs.Option.{option_and_then, option_map}
 use Rattle.std.specs.Str.{bytes_eq}
 use Rattle.live_model.specs.declared.points.Rect.{Rect}
+use Rattle.live_model.specs.declared.queries.Query.{Query}
 use Rattle.live_model.specs.Points.{rect_of}
+use Rattle.live_model.specs.QueryTexts.{query_of}
 use Rattle.stamp_core.specs.Hours.{CivilHour}
 use Rattle.hour_words.specs.HourWords.{hour_of}
 use Rattle.run_model.specs.declared.request.Request.{Request}
@@ -17,6 +19,7 @@ pub data Asked : Type 0 where
   dump : (base : List ℕ) → Asked
   build : (rules base output : List ℕ) → Asked
   change_map : (rules base : List ℕ) → (hour : CivilHour) → (output : List ℕ) → (changes : List (List ℕ)) → Asked
+  ask_files : Query → (files : List (List ℕ)) → Asked
   check : (file : List ℕ) → Asked
 
 -- the verb of this name
@@ -26,6 +29,7 @@ verb_of word =
     else if bytes_eq word (codes "dump") then Some verb.Dump
     else if bytes_eq word (codes "build") then Some verb.Build
     else if bytes_eq word (codes "change") then Some verb.Change
+    else if bytes_eq word (codes "ask") then Some verb.Ask
     else if bytes_eq word (codes "check") then Some verb.Check
     else None
 
@@ -34,13 +38,19 @@ abbrev pub asked_change : (rules base stamp output : List ℕ) → List (List �
 asked_change rules base stamp output [] = None
 asked_change rules base stamp output (change ∷ changes) = option_map (λ hour. change_map rules base hour output (change ∷ changes)) (hour_of stamp)
 
--- `nodes RECT BASE`, `dump BASE`, `build RULES BASE OUT`, `change RULES BASE STAMP OUT CHANGE ..` and `check FILE`, by the words after
--- the verb
+-- there is a file at least, and the query spells a question
+abbrev pub asked_query : (query : List ℕ) → List (List ℕ) → Option Asked
+asked_query query [] = None
+asked_query query (file ∷ files) = option_map (λ q. ask_files q (file ∷ files)) (query_of query)
+
+-- `nodes RECT BASE`, `dump BASE`, `build RULES BASE OUT`, `change RULES BASE STAMP OUT CHANGE ..`, `ask QUERY FILE ..` and
+-- `check FILE`, by the words after the verb
 abbrev pub asked_with : Verb → List (List ℕ) → Option Asked
 asked_with verb.Nodes (rect ∷ base ∷ []) = option_map (λ r. nodes r base) (rect_of rect)
 asked_with verb.Dump (base ∷ []) = Some (dump base)
 asked_with verb.Build (rules ∷ base ∷ output ∷ []) = Some (build rules base output)
 asked_with verb.Change (rules ∷ base ∷ stamp ∷ output ∷ changes) = asked_change rules base stamp output changes
+asked_with verb.Ask (query ∷ files) = asked_query query files
 asked_with verb.Check (file ∷ []) = Some (check file)
 asked_with verb words = None
 
@@ -54,4 +64,10 @@ asked (request.Nodes rect base) = nodes rect base.now
 asked (request.Dump base) = dump base.now
 asked (request.Build rules base output) = build rules.now base.now output.now
 asked (request.Change rules base hour output earlier last) = change_map rules.now base.now hour output.now (earlier.now ++ last.now ∷ [])
+asked (request.Ask query files) = ask_files query files.now
 asked (request.Check file) = check file.now
+
+-- the first word is `ask`, whose question takes memory as it is read
+abbrev pub BeginsQuestion : List (List ℕ) → Type 0
+BeginsQuestion [] = ⊥
+BeginsQuestion (word ∷ words) = verb_of word ≡ Some verb.Ask

@@ -1,12 +1,14 @@
 -- What a run answers: the cause of each ending, what stays, which ending must come, and what the error sink is told.
-use Rattle.std.specs.Prelude.{◌≡◌, ◌⊎◌, ◌≤◌, ◌<◌, ℕ, nat_lt, Bool, true, false, if◌then◌else◌, length, List, [], ◌∷◌, ◌++◌, Option, Some, None}
+use Rattle.std.specs.Prelude.{◌≡◌, ◌⊎◌, ◌≤◌, ◌<◌, ◌+◌, ℕ, nat_lt, Bool, true, false, if◌then◌else◌, length, List, [], ◌∷◌, ◌++◌, Option, Some, None}
 use Rattle.std.specs.Option.{option_and_then, option_map, option_or}
 use Rattle.outside.specs.Faults.{Rose}
 use Rattle.outside.specs.Files.{Contents, FilesState, OnlyWrites, OthersStay, Replaces}
 use Rattle.outside.specs.Readings.{Writing, writing}
 use Rattle.outside.specs.Sinks.{SinkState, ReceivesPart}
-use Rattle.run_model.specs.Requests.{Asked, asked_by}
-use Rattle.run_model.specs.Inputs.{Input, Misfit, Plan, break_in, most_files, no_more, output_of, reads}
+use Rattle.live_model.specs.declared.queries.Query.{Query}
+use Rattle.run_model.specs.Requests.{Asked, BeginsQuestion, ask_files, asked_by}
+use Rattle.run_model.specs.MapFiles.{blocks_due}
+use Rattle.run_model.specs.Inputs.{Input, Misfit, Plan, break_in, map_files, in_turn, most_files, no_more, output_of, reads}
 use Rattle.run_model.specs.Jobs.{Outcome, Task, task_of}
 use Rattle.run_model.specs.Endings.{Ending, done, bad_words, too_many_files, refused, misfit, read_fault, write_fault, answer_fault, no_memory, over_limit, code_of, ending_line}
 use Rattle.run_model.specs.Reads.{EndsAmong, ReadInOrder, limit}
@@ -161,8 +163,15 @@ abbrev pub CausedByWords : Ending → Change FilesState → Change SinkState →
 CausedByWords e files out None = (e ≡ bad_words) × IsUntouched files out
 CausedByWords e files out (Some a) = CausedBy e files out (task_of a)
 
+-- Memory was refused as the words of `ask` were read, and nothing else came of them: no file is read. It can be so too where these words
+-- hold no question, or name too many files; of every other verb no memory is taken for its words.
+pub record EndsUnread (e : Ending) (words : List (List ℕ)) (run : Run) : Type 0 where
+  pub short : e ≡ no_memory
+  pub begins : BeginsQuestion words
+  pub untouched : IsUntouched run.files run.out
+
 abbrev pub Cause : Ending → List (List ℕ) → Run → Type 0
-Cause e words run = CausedByWords e run.files run.out (asked_by words)
+Cause e words run = CausedByWords e run.files run.out (asked_by words) ⊎ EndsUnread e words run
 
 -- What stays.
 
@@ -274,6 +283,22 @@ Completes e words run =
     (a : Asked) (contents : Contents) → asked_by words ≡ Some a → run.files.before.contents ≡ Some contents → NoFault run.files run.out
     → IsDue e (task_of a) contents ⊎ (e ≡ no_memory)
 
+-- The steps of a question.
+
+-- the map files of these names were read, one after another, and no more steps were taken than there are blocks in them that are due to the
+-- question
+pub record AsksWithin (query : Query) (names : List (List ℕ)) (files : Change FilesState) (steps : Change ℕ) : Type 0 where
+  pub texts : List (List ℕ)
+  pub reads : ReadInOrder files.before files.after (in_turn (map_files names)) texts
+  pub within : steps.after ≤ steps.before + blocks_due query texts
+
+-- A question takes no step before all files were read, and then no more than are due; words that ask for nothing take none. Nothing is said
+-- of the other verbs.
+abbrev pub StepsFor : Option Asked → Change FilesState → Change ℕ → Type 0
+StepsFor None files steps = steps.after ≡ steps.before
+StepsFor (Some (ask_files query names)) files steps = (steps.after ≡ steps.before) ⊎ AsksWithin query names files steps
+StepsFor (Some a) files steps = Unit {0}
+
 -- The line on the error sink.
 
 -- the error sink received exactly this line, or its count rose and it received a part
@@ -290,6 +315,7 @@ pub record EndsSo (e : Ending) (words : List (List ℕ)) (run : Run) : Type 0 wh
   pub cause : Cause e words run
   pub keeps : Keeps e (output_for (asked_by words)) run.files run.out
   pub complete : Completes e words run
+  pub steps : StepsFor (asked_by words) run.files run.steps
   pub told : PutsLine e run.err
 
 -- nothing was done, and the line was put

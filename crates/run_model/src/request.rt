@@ -1,11 +1,14 @@
 //! The words that the program takes.
 
-ghost use Rattle.std.specs.Prelude.{◌≡◌, Some, None, MatchOption};
-ghost use Rattle.run_model.specs.Requests.{asked, asked_by, asked_change, asked_with, verb_of};
+ghost use Rattle.std.specs.Prelude.{◌≡◌, ◌∷◌, [], Some, None, IfErr, IfOk, MatchOption};
+ghost use Rattle.run_model.specs.declared.request.Verb.TheVariants.{Ask, Nodes};
+ghost use Rattle.run_model.specs.Requests.{BeginsQuestion, asked, asked_by, asked_change, asked_query, asked_with, verb_of};
 
 use hour_words::read_hour;
-use live_model::{Rect, Text};
+use live_model::{Mem, NoMemory, Query, Rect, Text};
+use query_text::{QueryError, read_query};
 use stamp_core::Stamp;
+use std::alloc::Global;
 
 /// The first word.
 #[derive(Clone, Copy, PartialEq, Eq, Debug)]
@@ -14,11 +17,12 @@ pub enum Verb {
     Dump,
     Build,
     Change,
+    Ask,
     Check,
 }
 
 /// What is asked for. Files are named as they were given.
-#[derive(Clone, Copy)]
+#[derive(Drop)]
 pub enum Request<'a> {
     /// The located nodes of the base in the rectangle.
     Nodes {
@@ -44,6 +48,11 @@ pub enum Request<'a> {
         earlier: &'a [Text],
         last: &'a str,
     },
+    /// The rows of a question over map files.
+    Ask {
+        query: Query,
+        files: &'a [Text],
+    },
     /// Whether the file is a map file.
     Check {
         file: &'a str,
@@ -51,17 +60,19 @@ pub enum Request<'a> {
 }
 
 /// What the words ask for. `None` exactly where they are none of `nodes RECT BASE`, `dump BASE`, `build RULES BASE OUT`,
-/// `change RULES BASE STAMP OUT CHANGE ..` and `check FILE`.
-pub fn read_request(words: &[Text]) -> Option<Request<'_>>
-    ensures { MatchOption result (asked_by words.now ≡ None) (λ r. asked_by words.now ≡ Some (asked r)) }
+/// `change RULES BASE STAMP OUT CHANGE ..`, `ask QUERY FILE ..` and `check FILE`. `NoMemory` only where the first word is `ask`: a
+/// question takes memory as it is read, also where it turns out to be none.
+pub fn read_request(alloc: Global, words: &[Text]) -> Mem<Option<Request<'_>>>
+    ensures read { IfOk result (λ found. MatchOption found (asked_by words.now ≡ None) (λ r. asked_by words.now ≡ Some (asked r))) }
+    ensures short { IfErr result (λ _. BeginsQuestion words.now) }
 {
     let [word, rest @ ..] = words else {
-        return None;
+        return Ok(None);
     };
     let Some(verb) = read_verb(word.as_str()) else {
-        return None;
+        return Ok(None);
     };
-    read_words(verb, rest)
+    read_words(alloc, verb, rest)
 }
 
 /// The verb of this name.
@@ -73,46 +84,54 @@ fn read_verb(word: &str) -> Option<Verb>
         "dump" => Some(Verb::Dump),
         "build" => Some(Verb::Build),
         "change" => Some(Verb::Change),
+        "ask" => Some(Verb::Ask),
         "check" => Some(Verb::Check),
         _ => None,
     }
 }
 
 /// What a verb asks for with these words.
-fn read_words(verb: Verb, words: &[Text]) -> Option<Request<'_>>
-    ensures { MatchOption result (asked_with verb words.now ≡ None) (λ r. asked_with verb words.now ≡ Some (asked r)) }
+fn read_words(alloc: Global, verb: Verb, words: &[Text]) -> Mem<Option<Request<'_>>>
+    ensures read { IfOk result (λ found. MatchOption found (asked_with verb words.now ≡ None) (λ r. asked_with verb words.now ≡ Some (asked r))) }
+    ensures short { IfErr result (λ _. verb ≡ Ask) }
 {
     match (verb, words) {
-        (Verb::Nodes, [rect, base]) => {
-            let Some(rect) = Rect::read(rect.as_str()) else {
-                return None;
-            };
-            let base = base.as_str();
-            Some(Request::Nodes { rect, base })
-        }
+        (Verb::Nodes, [rect, base]) => Ok(read_nodes(rect, base)),
         (Verb::Dump, [base]) => {
             let base = base.as_str();
-            Some(Request::Dump { base })
+            Ok(Some(Request::Dump { base }))
         }
         (Verb::Build, [rules, base, output]) => {
             let rules = rules.as_str();
             let base = base.as_str();
             let output = output.as_str();
-            Some(Request::Build {
+            Ok(Some(Request::Build {
                 rules,
                 base,
                 output,
-            })
+            }))
         }
         (Verb::Change, [rules, base, stamp, output, changes @ ..]) => {
-            read_change(rules, base, stamp, output, changes)
+            Ok(read_change(rules, base, stamp, output, changes))
         }
+        (Verb::Ask, [query, files @ ..]) => read_ask(alloc, query, files),
         (Verb::Check, [file]) => {
             let file = file.as_str();
-            Some(Request::Check { file })
+            Ok(Some(Request::Check { file }))
         }
-        _ => None,
+        _ => Ok(None),
     }
+}
+
+/// What `nodes` asks for with these words.
+fn read_nodes<'a>(rect: &Text, base: &'a Text) -> Option<Request<'a>>
+    ensures { MatchOption result (asked_with Nodes (rect.now ∷ base.now ∷ []) ≡ None) (λ r. asked_with Nodes (rect.now ∷ base.now ∷ []) ≡ Some (asked r)) }
+{
+    let Some(rect) = Rect::read(rect.as_str()) else {
+        return None;
+    };
+    let base = base.as_str();
+    Some(Request::Nodes { rect, base })
 }
 
 /// What `change` asks for with these words.
@@ -143,4 +162,18 @@ fn read_change<'a>(
         earlier,
         last,
     })
+}
+
+/// What `ask` asks for with these words.
+fn read_ask<'a>(alloc: Global, query: &Text, files: &'a [Text]) -> Mem<Option<Request<'a>>>
+    ensures { IfOk result (λ found. MatchOption found (asked_query query.now files.now ≡ None) (λ r. asked_query query.now files.now ≡ Some (asked r))) }
+{
+    if files.is_empty() {
+        return Ok(None);
+    }
+    match read_query(alloc, query.as_str()) {
+        Ok(query) => Ok(Some(Request::Ask { query, files })),
+        Err(QueryError::Bad) => Ok(None),
+        Err(QueryError::NoMemory) => Err(NoMemory),
+    }
 }

@@ -1,5 +1,5 @@
 -- Small requests, files and runs, with what the definitions make of them.
-use Rattle.std.proofs.Common.{◌≡◌, ◌≢◌, ◌⊎◌, ℕ, ◌+◌, ◌<◌, ◌≤◌, List, [], ◌∷◌, ◌++◌, length, refl, sym, ◌∙◌, ap, subst, inl, inr, Option, Some, None, arith, append-nil}
+use Rattle.std.proofs.Common.{◌≡◌, ◌⊎◌, ℕ, ◌<◌, ◌≤◌, List, [], ◌∷◌, ◌++◌, length, refl, sym, ◌∙◌, ap, subst, inl, inr, Option, Some, None, arith, append-nil}
 use Rattle.std.specs.Prelude.{codes, map, pos, ◌^◌, Result, Ok, Err, Bool, true, false, nat_lt}
 use Rattle.std.specs.Fmt.{digits}
 use Rattle.std.specs.Str.{bytes_eq, is_utf8, chars}
@@ -20,6 +20,9 @@ use Rattle.live_model.specs.declared.ids.Kind.TheVariants.{Node}
 use Rattle.live_model.specs.declared.opl.OplKind.TheVariants as opl
 use Rattle.obf_wire.specs.declared.file.FileBreak.{FileBreak}
 use Rattle.live_model.specs.declared.points.Rect.{Rect}
+use Rattle.live_model.specs.declared.queries.Query.{Query}
+use Rattle.live_model.specs.declared.queries.Query.TheVariants.{View, Prefix}
+use Rattle.live_model.specs.QueryTexts.{query_of}
 use Rattle.live_model.specs.declared.classes.Class.TheVariants.{Map as MapClass}
 use Rattle.live_model.specs.declared.shapes.Shape.TheVariants.{Point as PointShape}
 use Rattle.live_model.specs.declared.records.Rec.TheVariants.{Map}
@@ -66,18 +69,19 @@ use Rattle.outside.specs.Sinks.{SinkState}
 use Rattle.outside.specs.Whole.{IsWhole}
 use Rattle.run_model.specs.declared.breaks.Break.{Break}
 use Rattle.run_model.specs.declared.breaks.Break.TheVariants.{InRules, InObjects, InFile}
-use Rattle.run_model.specs.Requests.{Asked, asked_by, nodes, dump, build, check}
+use Rattle.run_model.specs.MapFiles.{map_file_in, parts_in, placed_in}
+use Rattle.run_model.specs.Requests.{Asked, BeginsQuestion, ask_files, asked_by, nodes, dump, build, check}
 use Rattle.file_order.specs.declared.kinds.RunKind.TheVariants as kind
-use Rattle.run_model.specs.Inputs.{Input, Misfit, Plan, input, in_turn, plan_of, output_of, break_in, break_text, no_more, reads, rule_table, object_text, map_file}
+use Rattle.run_model.specs.Inputs.{Input, Misfit, files_named, misfit_in, input, in_turn, plan_of, output_of, break_in, break_text, no_more, reads, rule_table, object_text, map_file}
 use Rattle.file_lines.specs.FileLines.{file_line}
-use Rattle.run_model.specs.Jobs.{IsStoreOf, Job, Outcome, Task, base_head, prints, task_of}
+use Rattle.run_model.specs.Jobs.{IsStoreOf, Job, Outcome, base_head, prints, task_of}
 use Rattle.run_model.specs.Endings.{Ending, done, bad_words, too_many_files, misfit, refused, read_fault, write_fault, answer_fault, no_memory, over_limit, code_of, ending_line}
 use Rattle.run_model.specs.Reads.{limit, ReadsBroken, ReadsGood, ReadInOrder, EndsAmong}
-use Rattle.run_model.specs.Runs.{AreTold, Cause, Caused, CausedBy, Completes, EndsAsTold, Holds, IsDue, IsTooLong, IsWrittenAs, Keeps, NoFault, Run, PutsLine, change, changed_by, due_for, first_stop, stop_in}
+use Rattle.run_model.specs.Runs.{Cause, Caused, Completes, Holds, IsTooLong, IsWrittenAs, Keeps, NoFault, Run, PutsLine, change, changed_by, due_for, first_stop, stop_in}
 
 -- all that the rows compute with
 opened : Unit {0}
-unfolding lines_from fields_from number_of id_of magnitude_of degrees_of magnitude_text degrees_text character_of unescaped text_of escaped rect_of object_of ref_of version_of gone_of is_count is_time coordinate_of tag_of pairs_of refs_of member_of members_of letter_of line_of tests_of break_of text_break id_text tag_text ref_text member_text row_text line_text shape_of admitted_of zoom_of poi_of named_class rule_fields rule_of rule_tests rule_break rules_break rule_row rule_line records digits is_utf8 chars encode message_from field_at varint_in file_facts section_facts keyed_facts groups_facts packed_file packed packed_addresses packed_pois varint X.groups
+unfolding lines_from fields_from number_of id_of magnitude_of degrees_of magnitude_text degrees_text character_of unescaped text_of escaped rect_of object_of ref_of version_of gone_of is_count is_time coordinate_of tag_of pairs_of refs_of member_of members_of letter_of line_of tests_of break_of text_break id_text tag_text ref_text member_text row_text line_text shape_of admitted_of zoom_of poi_of named_class rule_fields rule_of rule_tests rule_break rules_break rule_row rule_line records digits is_utf8 chars encode message_from field_at varint_in file_facts section_facts keyed_facts groups_facts packed_file packed packed_addresses packed_pois varint X.groups query_of parts_in
 opened = tt
 
 -- Words.
@@ -94,6 +98,16 @@ words_dump = refl
 
 words_check : asked_by (codes "check" ∷ codes "a.obf" ∷ []) ≡ Some (check (codes "a.obf"))
 words_check = refl
+
+words_ask : asked_by (codes "ask" ∷ codes "V 13.1 52.4 13.101 52.401 15" ∷ codes "town.obf" ∷ codes "h1.obf" ∷ [])
+    ≡ Some (ask_files (View (rect 1931000000 375990000 1931010000 376000000) 15) (codes "town.obf" ∷ codes "h1.obf" ∷ []))
+unfolding opened
+words_ask = refl
+
+-- the text of a question keeps its case
+words_ask_text : asked_by (codes "ask" ∷ codes "A STRASSE" ∷ codes "a" ∷ []) ≡ Some (ask_files (Prefix (codes "STRASSE")) (codes "a" ∷ []))
+unfolding opened
+words_ask_text = refl
 
 words_build : asked_by (codes "build" ∷ codes "a.rules" ∷ codes "a.opl" ∷ codes "a.obf" ∷ []) ≡ Some (build (codes "a.rules") (codes "a.opl") (codes "a.obf"))
 words_build = refl
@@ -125,6 +139,24 @@ dump_miscounted = (refl, refl)
 check_miscounted : (asked_by (codes "check" ∷ codes "0 0 1 1" ∷ codes "b" ∷ []) ≡ None) × (asked_by (codes "check" ∷ codes "a" ∷ codes "b" ∷ codes "c" ∷ []) ≡ None)
 check_miscounted = (refl, refl)
 
+-- a question without a file, and files without a question
+ask_miscounted : (asked_by (codes "ask" ∷ codes "A STRASSE" ∷ []) ≡ None) × (asked_by (codes "ask" ∷ []) ≡ None) × (asked_by (codes "ask" ∷ codes "a" ∷ codes "b" ∷ []) ≡ None)
+unfolding opened
+ask_miscounted = (refl, refl, refl)
+
+-- the zoom is missing, or above the last
+ask_of_no_zoom : (asked_by (codes "ask" ∷ codes "V 0 0 1 1" ∷ codes "a" ∷ []) ≡ None) × (asked_by (codes "ask" ∷ codes "V 0 0 1 1 23" ∷ codes "a" ∷ []) ≡ None)
+unfolding opened
+ask_of_no_zoom = (refl, refl)
+
+-- memory is taken for the words of a question, also where they hold none
+asks_begin : BeginsQuestion (codes "ask" ∷ []) × BeginsQuestion (codes "ask" ∷ codes "a" ∷ codes "b" ∷ [])
+asks_begin = (refl, refl)
+
+-- and for no other words
+others_begin_none : (BeginsQuestion (codes "dump" ∷ codes "ask" ∷ []) → ⊥) × (BeginsQuestion (codes "Ask" ∷ codes "A b" ∷ codes "a" ∷ []) → ⊥) × (BeginsQuestion [] → ⊥)
+others_begin_none = (λ e. absurd cc, λ e. absurd cc, λ e. e)
+
 build_miscounted : (asked_by (codes "build" ∷ codes "a" ∷ []) ≡ None) × (asked_by (codes "build" ∷ codes "0 0 1 1" ∷ codes "b" ∷ []) ≡ None)
     × (asked_by (codes "build" ∷ codes "a" ∷ codes "b" ∷ codes "c" ∷ codes "d" ∷ []) ≡ None)
 build_miscounted = (refl, refl, refl)
@@ -151,6 +183,14 @@ of_dump = refl
 
 of_check : plan_of (check (codes "a")) ≡ reads (record { name = codes "a"; grammar = map_file }) (λ text. no_more)
 of_check = refl
+
+of_ask : (q : Query) → plan_of (ask_files q (codes "a" ∷ codes "b" ∷ []))
+    ≡ reads (record { name = codes "a"; grammar = map_file }) (λ one. reads (record { name = codes "b"; grammar = map_file }) (λ other. no_more))
+of_ask q = refl
+
+-- each word that names a file counts, also where one name comes twice
+named_by_ask : (q : Query) → (files_named (ask_files q (codes "a" ∷ codes "a" ∷ [])) ≡ 2) × (output_of (ask_files q (codes "a" ∷ [])) ≡ None) × (files_named (dump (codes "a")) ≡ 0)
+named_by_ask q = (refl, refl, refl)
 
 of_build : plan_of (build (codes "r") (codes "b") (codes "o"))
     ≡ reads (record { name = codes "r"; grammar = rule_table }) (λ table. reads (record { name = codes "b"; grammar = object_text }) (λ text. no_more))
@@ -222,6 +262,28 @@ shared_names : (break_text (InRules (record { at = 7; kind = rule.OverLimit })) 
     × (break_text (InObjects (record { at = 7; kind = opl.BadId })) ≡ break_text (InFile (record { at = 7; kind = file.BadId })))
 unfolding opened
 shared_names = (refl, refl)
+
+-- Files that lie over one another.
+
+-- a base of no rules covers no hour
+bare_placed : placed_in (map_file_in (bare_base 2 2)) ≡ record { head = base_head; rules = [] }
+unfolding opened
+bare_placed = refl
+
+-- one base follows, and a second does not
+bases_over : (q : Query) → (misfit_in (ask_files q (codes "a" ∷ [])) (bare_base 2 2 ∷ []) ≡ None)
+    × (misfit_in (ask_files q (codes "a" ∷ codes "b" ∷ [])) (bare_base 2 2 ∷ bare_base 2 2 ∷ []) ≡ Some (record { name = codes "b"; kind = kind.IsBase; index = 1 }))
+unfolding opened
+bases_over q = (refl, refl)
+
+-- a base alone is no misfit of another verb
+base_checked : misfit_in (check (codes "a")) (bare_base 2 2 ∷ []) ≡ None
+base_checked = refl
+
+-- a map of no records has no rows
+bare_rows : Job (ask_files (View (rect 0 0 3600000000 1800000000) 22) (codes "a" ∷ [])) (bare_base 2 2 ∷ []) (prints (codes "rows 0" ++ 10 ∷ []))
+unfolding opened
+bare_rows = refl
 
 -- Endings.
 
@@ -504,7 +566,7 @@ unfolding opened
 corner_good = record { whole = read_once corner_alone [] (codes "b") corner refl (omega arith) (omega arith); good = refl; only = only_reads corner_alone [] (reads_of (codes "b") corner) }
 
 corner_is_dumped : Cause done (codes "dump" ∷ codes "b" ∷ []) corner_run
-corner_is_dumped = record {
+corner_is_dumped = inl (record {
   texts = corner ∷ [];
   between = files_at corner_alone (reads_of (codes "b") corner);
   reads = (files_at corner_alone (reads_of (codes "b") corner), corner_good, refl);
@@ -512,7 +574,7 @@ corner_is_dumped = record {
   outcome = prints corner_line;
   does = corner_job;
   holds = (refl, record { received = refl; count = omega arith });
-}
+})
 
 -- A file that is built of nothing.
 
@@ -686,7 +748,7 @@ empty_is_built =
     record { whole = read_none two_empty [] (codes "r") refl; good = refl; only = only_reads two_empty [] (reading (codes "r") 0 65536 [] ∷ []) } in
     let base : ReadsGood first both (input (codes "b") object_text) [] =
     record { whole = read_none two_empty (reading (codes "r") 0 65536 [] ∷ []) (codes "b") refl; good = refl; only = only_reads two_empty (reading (codes "r") 0 65536 [] ∷ []) empty_reads } in
-    record {
+    inl (record {
       texts = [] ∷ [] ∷ [];
       between = both;
       reads = (first, rules, (both, base, refl));
@@ -697,7 +759,7 @@ empty_is_built =
         record { within = omega arith; once = refl; holds = record { written = refl; others = others_stay }; count = omega arith; only = record { given = refl; read_faults = refl } },
         record { received = refl; count = omega arith },
       );
-    }
+    })
 
 empty_keeps : Keeps done (output_of building) empty_run.files empty_run.out
 empty_keeps = record {
@@ -715,7 +777,8 @@ no_job outcome job = job
 -- a run that is done has read no broken base
 not_done : (run : Run) → run.files.before ≡ files_at located_alone [] → ¬ Cause done (codes "dump" ∷ codes "b" ∷ []) run
 unfolding opened
-not_done run same cause = one cause.texts cause.between cause.reads
+not_done run same (inr unread) = let short = unread.short in absurd cc
+not_done run same (inl cause) = one cause.texts cause.between cause.reads
   where
     one : (texts : List (List ℕ)) (between : FilesState) → ReadInOrder run.files.before between (plan_of dumping) texts → ⊥
     one [] between all = all
@@ -737,7 +800,8 @@ no_write_fault run name cause = cause.0.holds
 
 -- words that ask for nothing end in one way
 one_ending : (run : Run) → ¬ Cause no_memory (codes "paint" ∷ []) run
-one_ending run cause = other cause.0
+one_ending run (inr unread) = let begins = unread.begins in absurd cc
+one_ending run (inl cause) = other cause.0
   where
     other : no_memory ≡ bad_words → ⊥
     other same = cc

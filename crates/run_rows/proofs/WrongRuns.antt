@@ -1,12 +1,11 @@
--- Wrong runs, which fit no definition, and tasks of a kind that no verb has yet.
-use Rattle.std.proofs.Common.{◌≡◌, ◌≢◌, ◌⊎◌, ℕ, ◌+◌, ◌<◌, ◌≤◌, Bool, true, false, List, [], ◌∷◌, ◌++◌, length, Option, Some, None, refl, sym, ◌∙◌, ap, subst, inl, inr, arith, append-nil}
-use Rattle.std.specs.Prelude.{codes, ◌^◌, if◌then◌else◌}
+-- Wrong runs, which fit no definition, and tasks that no verb has.
+use Rattle.std.proofs.Common.{◌≡◌, ℕ, ◌<◌, ◌≤◌, true, false, List, [], ◌∷◌, ◌++◌, length, Option, Some, None, refl, sym, ◌∙◌, ap, subst, inl, inr, arith}
+use Rattle.std.specs.Prelude.{codes, if◌then◌else◌}
 use Rattle.std.specs.Str.{bytes_eq}
-use Rattle.outside.specs.Faults.{Rose}
 use Rattle.outside.specs.Files.{Contents, FilesState, OnlyWrites}
 use Rattle.outside.specs.Readings.{Reading, Writing, bytes_given, reading, writing}
 use Rattle.outside.specs.Sinks.{SinkState}
-use Rattle.outside.specs.Whole.{Follow, Gave, GaveAll, IsWhole}
+use Rattle.outside.specs.Whole.{Follow, Gave, IsWhole}
 use Rattle.std.specs.Fmt.{digits}
 use Rattle.std.specs.Str.{chars, is_utf8}
 use Rattle.std.proofs.Math.Utf8.{encode}
@@ -20,12 +19,12 @@ use Rattle.live_model.specs.OplTexts.{text_break}
 use Rattle.run_model.specs.declared.breaks.Break.TheVariants.{InObjects}
 use Rattle.run_model.specs.declared.arguments.Arguments.TheVariants as arguments
 use Rattle.file_order.specs.declared.kinds.RunKind.TheVariants as kind
-use Rattle.run_model.specs.Endings.{Ending, done, bad_words, too_many_files, refused, misfit, read_fault, write_fault, answer_fault, no_memory, over_limit, code_of, ending_line}
-use Rattle.run_model.specs.Inputs.{Input, Misfit, Plan, input, in_turn, no_more, object_text, map_file, plan_of, reads}
-use Rattle.run_model.specs.Jobs.{Outcome, Task, prints, task_of}
-use Rattle.run_model.specs.Reads.{EndsAmong, ReadInOrder, limit}
+use Rattle.run_model.specs.Endings.{Ending, done, bad_words, too_many_files, refused, misfit, read_fault, no_memory, code_of}
+use Rattle.run_model.specs.Inputs.{Misfit, Plan, input, in_turn, no_more, object_text, plan_of, reads}
+use Rattle.run_model.specs.Jobs.{Task, prints, task_of}
+use Rattle.run_model.specs.Reads.{limit}
 use Rattle.run_model.specs.Requests.{Asked, build, dump}
-use Rattle.run_model.specs.Runs.{AreTold, Caused, CausedBy, Cause, Change, EndsOn, EndsWithCode, first_stop, IsDue, IsNotWritten, IsOutput, IsUntouched, IsWrittenAs, Keeps, OnlyTells, PutsLine, Receives, ReceivesLess, Run, change, Holds, ReceivesNothing}
+use Rattle.run_model.specs.Runs.{AreTold, Caused, CausedBy, Change, EndsWithCode, first_stop, IsDue, IsNotWritten, IsOutput, IsWrittenAs, Keeps, PutsLine, Receives, Run, change, Holds, ReceivesNothing}
 use Rattle.run_model.proofs.Readings.{all_only, among_only}
 
 -- what the breaks of texts compute with
@@ -197,7 +196,7 @@ empty_room_but_for_the_room = (refl, tt, refl)
 fallen_but_for_the_count : (answer : List ℕ) → (sink_with answer 6).received ≡ (sink_with [] 7).received ++ answer
 fallen_but_for_the_count answer = refl
 
--- Tasks of a kind that no verb has yet.
+-- Tasks that no verb has.
 
 -- of so many files, none of which is read here
 abbrev crowd : ℕ → Task

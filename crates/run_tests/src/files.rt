@@ -8,6 +8,7 @@ use std::process::Abort;
 use std::test::Fail;
 
 // A file, as the pieces of its bytes.
+#[derive(Clone, Copy)]
 pub(super) struct Pieces {
     pub(super) name: &'static str,
     pub(super) bytes: &'static [&'static [u8]],
@@ -37,7 +38,7 @@ pub(super) const TOWN: &[u8] =
     b"n1 v1 dV c10 t2024-01-05T10:00:00Z i7 uada Tplace=town,name=Aldorf x13.1 y52.4\nn2 v1 dV Tamenity=cafe,name=Bo%20%Bar x13.1001 y52.4001\nn3 v1 x13.1 y52.4002\nn4 v1 x13.101 y52.4002\nn5 v1 x13.102 y52.4002\nn6 v1 x13.1004 y52.4004\nn7 v1 x13.1006 y52.4004\nn8 v1 x13.1006 y52.4006\nw20 v1 Thighway=residential,name=Stra%df%e Nn3,n4,n5\nw21 v1 Tbuilding=yes,addr:street=Stra%df%e,addr:housenumber=3 Nn6,n7,n8,n6\nw22 v1 Thighway=primary,oneway=yes Nn5,n99\nr30 v1 Ttype=restriction,restriction=no_left_turn Mw20@from,n5@via,w22@to\n";
 
 // The sections of map records: without one, with that of `n1 x0 y0 Ta=b`, and with those of the town.
-const NO_RECORDS: &[u8] =
+pub(super) const NO_RECORDS: &[u8] =
     b"\x36\x00\x00\x00\x00\x00\x00\x00\x09\x0E\x00\x00\x00\x00\x00\x00\x00\x00";
 
 const ONE_RECORD: &[u8] =
@@ -47,7 +48,7 @@ const TOWN_RECORDS: &[u8] =
     b"\x36\x00\x00\x00\x00\x00\x00\x00\xA7\x0E\x00\x00\x00\x00\x00\x00\x00\x1A\x08\xC0\xF1\xE2\x98\x07\x10\x90\xED\xA4\xB3\x01\x18\xE0\x8D\xE4\x98\x07\x20\x98\x94\xA5\xB3\x01\x28\x00\x16\x00\x00\x00\x00\x00\x00\x00\x7B\x0E\x00\x00\x00\x00\x00\x00\x00\x11\x0A\x06\x42\x6F\x20\x42\x61\x72\x0A\x07\x53\x74\x72\x61\xC3\x9F\x65\x12\x1A\x08\x82\x80\x80\x80\x80\x80\x40\x10\x01\x18\x00\x20\x01\x2A\x0A\xD0\xF2\xC5\xB1\x0E\xB0\xA8\xCA\xE6\x02\x12\x23\x08\x92\x80\x80\x80\x80\x80\x80\x02\x10\x03\x18\x01\x20\x02\x2A\x12\x80\xE3\xC5\xB1\x0E\xE0\x98\xCA\xE6\x02\xA0\x9C\x01\x00\xA0\x9C\x01\x00\x12\x1E\x08\x01\x10\x07\x18\x02\x20\x00\x2A\x14\xC0\xA1\xC6\xB1\x0E\xC0\xF9\xC9\xE6\x02\xA0\x1F\x00\x00\x9F\x1F\x9F\x1F\xA0\x1F";
 
 // The other sections without records.
-const OTHERS: &[u8] =
+pub(super) const OTHERS: &[u8] =
     b"\x3E\x00\x00\x00\x00\x00\x00\x00\x12\x0E\x00\x00\x00\x00\x00\x00\x00\x00\x16\x00\x00\x00\x00\x00\x00\x00\x00\x46\x00\x00\x00\x00\x00\x00\x00\x00\x4E\x00\x00\x00\x00\x00\x00\x00\x24\x0E\x00\x00\x00\x00\x00\x00\x00\x09\x0E\x00\x00\x00\x00\x00\x00\x00\x00\x16\x00\x00\x00\x00\x00\x00\x00\x09\x0E\x00\x00\x00\x00\x00\x00\x00\x00";
 
 // Those of the town: its place, its street and its house; its cafe; its road and its restriction.
@@ -61,7 +62,7 @@ const TOWN_ROADS: &[u8] =
     b"\x4E\x00\x00\x00\x00\x00\x00\x00\xDE\x0E\x00\x00\x00\x00\x00\x00\x00\x6A\x0E\x00\x00\x00\x00\x00\x00\x00\x1A\x08\xC0\xF1\xE2\x98\x07\x10\xB0\x8C\xA5\xB3\x01\x18\xE0\x8D\xE4\x98\x07\x20\xB0\x8C\xA5\xB3\x01\x28\x00\x16\x00\x00\x00\x00\x00\x00\x00\x3E\x0E\x00\x00\x00\x00\x00\x00\x00\x0D\x0A\x0B\x72\x65\x73\x69\x64\x65\x6E\x74\x69\x61\x6C\x12\x26\x08\x94\x80\x80\x80\x80\x80\xC0\x02\x10\x04\x18\x01\x20\x00\x2A\x15\x06\x80\xE3\xC5\xB1\x0E\xE0\x98\xCA\xE6\x02\x02\xA0\x9C\x01\x00\x02\xA0\x9C\x01\x00\x16\x00\x00\x00\x00\x00\x00\x00\x62\x0E\x00\x00\x00\x00\x00\x00\x00\x1A\x08\xE0\x8D\xE4\x98\x07\x10\xB0\x8C\xA5\xB3\x01\x18\xE0\x8D\xE4\x98\x07\x20\xB0\x8C\xA5\xB3\x01\x28\x00\x16\x00\x00\x00\x00\x00\x00\x00\x36\x0E\x00\x00\x00\x00\x00\x00\x00\x0E\x0A\x0C\x6E\x6F\x5F\x6C\x65\x66\x74\x5F\x74\x75\x72\x6E\x12\x1D\x08\x9E\x80\x80\x80\x80\x80\xC0\x04\x10\x01\x18\x28\x20\x0A\x28\x2C\x32\x0A\xC0\x9B\xC8\xB1\x0E\xE0\x98\xCA\xE6\x02";
 
 // The marks: none, and n-5, n2, w20, w21, w22 and r30.
-const NO_MARKS: &[u8] = b"\x86\x01\x00\x00\x00\x00\x00\x00\x00\x02\x0A\x00";
+pub(super) const NO_MARKS: &[u8] = b"\x86\x01\x00\x00\x00\x00\x00\x00\x00\x02\x0A\x00";
 
 const SIX_MARKS: &[u8] =
     b"\x86\x01\x00\x00\x00\x00\x00\x00\x00\x1C\x0A\x1A\xFB\xFF\xFF\xFF\xFF\xFF\x3F\x07\x92\x80\x80\x80\x80\x80\x80\x02\x01\x01\x88\x80\x80\x80\x80\x80\x80\x02";
@@ -71,11 +72,13 @@ pub(super) const AGAIN: &[u8] = b"\x80\x02\x02";
 
 const FIRST_AGAIN: &[u8] = b"\x80\x02\x01";
 
-const EMPTY_FILE: &[&[u8]] = &[VERSION, BASE, NO_RULES, NO_RECORDS, OTHERS, NO_MARKS, AGAIN];
+pub(super) const EMPTY_FILE: &[&[u8]] = &[
+    VERSION, BASE, NO_RULES, NO_RECORDS, OTHERS, NO_MARKS, AGAIN,
+];
 
 const ONE_FILE: &[&[u8]] = &[VERSION, BASE, ONE_RULE, ONE_RECORD, OTHERS, NO_MARKS, AGAIN];
 
-const TOWN_FILE: &[&[u8]] = &[
+pub(super) const TOWN_FILE: &[&[u8]] = &[
     VERSION,
     BASE,
     TOWN_RULES_HERE,
@@ -324,7 +327,7 @@ fn joined(alloc: Global, pieces: &[&[u8]]) -> Mem<Vec<u8>> {
     Ok(bytes)
 }
 
-fn stored(alloc: Global, given: &[Pieces]) -> Mem<Vec<NamedFile>> {
+pub(super) fn stored(alloc: Global, given: &[Pieces]) -> Mem<Vec<NamedFile>> {
     let mut files = Vec::new(alloc);
     for file in given {
         let name = Text::copied(alloc, file.name)?;
@@ -336,14 +339,14 @@ fn stored(alloc: Global, given: &[Pieces]) -> Mem<Vec<NamedFile>> {
 
 // The calls that fail.
 #[derive(Clone, Copy)]
-struct Faults<'a> {
+pub(super) struct Faults<'a> {
     reads: &'a [u64],
     writes: &'a [u64],
     puts: &'a [u64],
     err_puts: &'a [u64],
 }
 
-const NO_FAULTS: Faults<'static> = Faults {
+pub(super) const NO_FAULTS: Faults<'static> = Faults {
     reads: &[],
     writes: &[],
     puts: &[],
@@ -352,7 +355,7 @@ const NO_FAULTS: Faults<'static> = Faults {
 
 // The exit code of a run, and the outside after it.
 #[derive(Drop)]
-struct Left {
+pub(super) struct Left {
     code: u8,
     files: MemFiles,
     out: MemSink,
@@ -360,7 +363,7 @@ struct Left {
 }
 
 // A run over these files. A read gives 100 bytes at most, and a put of the answer takes 4.
-fn run_over<A: Abort>(
+pub(super) fn run_over<A: Abort>(
     rt: &A,
     alloc: Global,
     words: &[&str],
@@ -383,7 +386,14 @@ fn run_over<A: Abort>(
     })
 }
 
-fn check_told<A: Abort>(rt: &A, left: &Left, words: &[&str], code: u8, out: &str, err: &str) {
+pub(super) fn check_told<A: Abort>(
+    rt: &A,
+    left: &Left,
+    words: &[&str],
+    code: u8,
+    out: &str,
+    err: &str,
+) {
     assert_eq!(rt; left.code, code, "{:?}", words);
     assert_eq!(rt; left.out.received(), out.as_bytes(), "{:?}", words);
     assert_eq!(rt; left.err.received(), err.as_bytes(), "{:?}", words);
@@ -402,7 +412,7 @@ fn check_holds<A: Abort>(rt: &A, alloc: Global, left: &Left, file: &Pieces) -> M
 }
 
 // The files after the run are those before it, but for the one that is written.
-fn check_stays<A: Abort>(
+pub(super) fn check_stays<A: Abort>(
     rt: &A,
     alloc: Global,
     left: &Left,

@@ -33,6 +33,32 @@ const NO_POIS: &[u8] = b"\x46\x00\x00\x00\x00\x00\x00\x00\x00";
 const STREET_MARK: &[u8] =
     b"\x86\x01\x00\x00\x00\x00\x00\x00\x00\x0A\x0A\x08\x94\x80\x80\x80\x80\x80\xC0\x02";
 
+pub(super) const MOVED_FILE: &[&[u8]] = &[
+    VERSION,
+    HOUR,
+    TOWN_RULES_HERE,
+    TOWN_RULES,
+    MOVED_RECORDS,
+    MOVED_ADDRESSES,
+    NO_POIS,
+    MOVED_ROADS,
+    STREET_MARK,
+    AGAIN,
+];
+
+pub(super) const BACK_FILE: &[&[u8]] = &[
+    VERSION,
+    NEXT_HOUR,
+    TOWN_RULES_HERE,
+    TOWN_RULES,
+    BACK_RECORDS,
+    BACK_ADDRESSES,
+    NO_POIS,
+    BACK_ROADS,
+    STREET_MARK,
+    AGAIN,
+];
+
 const RULES: Pieces = Pieces {
     name: "r.rules",
     bytes: &[TOWN_RULES],
@@ -67,18 +93,7 @@ static ROWS: [Row; 6] = [
         files: &[RULES, BASE, MOVE],
         written: Some(Pieces {
             name: "out.obf",
-            bytes: &[
-                VERSION,
-                HOUR,
-                TOWN_RULES_HERE,
-                TOWN_RULES,
-                MOVED_RECORDS,
-                MOVED_ADDRESSES,
-                NO_POIS,
-                MOVED_ROADS,
-                STREET_MARK,
-                AGAIN,
-            ],
+            bytes: MOVED_FILE,
         }),
         code: 0,
         out: "hour 2024-02-29-21 2024-02-29-21 1 3\n",
@@ -98,18 +113,7 @@ static ROWS: [Row; 6] = [
         files: &[RULES, BASE, MOVE, BACK],
         written: Some(Pieces {
             name: "out.obf",
-            bytes: &[
-                VERSION,
-                NEXT_HOUR,
-                TOWN_RULES_HERE,
-                TOWN_RULES,
-                BACK_RECORDS,
-                BACK_ADDRESSES,
-                NO_POIS,
-                BACK_ROADS,
-                STREET_MARK,
-                AGAIN,
-            ],
+            bytes: BACK_FILE,
         }),
         code: 0,
         out: "hour 2024-02-29-22 2024-02-29-22 1 3\n",

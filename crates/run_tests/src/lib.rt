@@ -6,6 +6,8 @@ mod files;
 #[cfg(test)]
 mod hours;
 #[cfg(test)]
+mod questions;
+#[cfg(test)]
 mod real;
 #[cfg(test)]
 mod words;
