@@ -9,7 +9,7 @@ use std::test::Fail;
 
 const BAD_WORDS: &str = "obf: the words are none of the ten forms\n";
 
-// No such level, no file, and the word of the output alone.
+// A level that files do not become, words that are too few, and a file that is missing.
 static WORDS: [Step; 5] = [
     Step {
         words: &["fold", "hour", "d.obf", "h1.obf"],
