@@ -13,8 +13,10 @@ use Rattle.file_order.specs.Folding.{not_fold}
 use Rattle.file_grammar.specs.Sections.{object_of}
 use Rattle.file_lines.specs.FileLines.{file_line}
 use Rattle.obf_reader.specs.Images.{Seen}
+use Rattle.fold_merge.specs.declared.error.FoldError.{FoldError}
+use Rattle.fold_merge.specs.declared.error.FoldError.TheVariants.{Not}
 use Rattle.fold_merge.specs.Folds as F
-use Rattle.fold_merge.specs.Folds.{IsFoldOf, common_rules, overlays_of}
+use Rattle.fold_merge.specs.Folds.{IsFoldOf, IsRefused, common_rules, overlays_of}
 use Rattle.outside.specs.Files.{FilesState}
 use Rattle.run_model.specs.declared.request.Period.{Period}
 use Rattle.run_model.specs.Endings.{Ending, misfit, no_memory}
@@ -95,17 +97,17 @@ fold_packed level texts images image made held fold told =
 
 -- The verb.
 
-module _ (before after : FilesState) (period : Period) (output : List ℕ) (names : List (List ℕ)) {X : Type 0} (of : X → Seen) (xs : List X) (made : AreRead before after names (map of xs)) where
-  -- there is an image where there is a name
-  pub some_read : (ys : List X) → ys ≡ xs → names ≢ [] → ys ≢ []
-  some_read ys same named = λ none. named (no_names names made.texts xs made.reads made.held (sym same ∙ none))
-    where
-      no_names : (names texts : List (List ℕ)) (xs : List X) → ReadInOrder before after (in_turn (map_files names)) texts → AreHeld texts (map of xs) → xs ≡ [] → names ≡ []
-      no_names [] texts xs reads held none = refl
-      no_names (name ∷ names) [] xs reads held none = absurd reads
-      no_names (name ∷ names) (text ∷ texts) [] reads held none = absurd held
-      no_names (name ∷ names) (text ∷ texts) (x ∷ xs) reads held none = absurd cc
+-- there is an image where there is a name
+pub some_read : (before after : FilesState) (names : List (List ℕ)) {X : Type 0} (of : X → Seen) (xs ys : List X) → AreRead before after names (map of xs) → names ≢ [] → ys ≡ xs → ys ≢ []
+some_read before after names of xs ys made named same = λ none. named (no_names names made.texts xs made.reads made.held (sym same ∙ none))
+  where
+    no_names : (names texts : List (List ℕ)) (xs : List X) → ReadInOrder before after (in_turn (map_files names)) texts → AreHeld texts (map of xs) → xs ≡ [] → names ≡ []
+    no_names [] texts xs reads held none = refl
+    no_names (name ∷ names) [] xs reads held none = absurd reads
+    no_names (name ∷ names) (text ∷ texts) [] reads held none = absurd held
+    no_names (name ∷ names) (text ∷ texts) (x ∷ xs) reads held none = absurd cc
 
+module _ (before after : FilesState) (period : Period) (output : List ℕ) (names : List (List ℕ)) {X : Type 0} (of : X → Seen) (xs : List X) (made : AreRead before after names (map of xs)) where
   -- all can become one, and this is their fold with its line
   pub fold_works : (level : Level) (image : Seen) (folded : Folded) → level ≡ level_of period → IsFoldOf level (map of xs) image → IsTold folded image
       → WorksTo before after (task_of (fold_files period output names)) (outcome_of_fold folded)
@@ -122,13 +124,15 @@ module _ (before after : FilesState) (period : Period) (output : List ℕ) (name
       }
 
   -- one of the files cannot become one with those before it
-  pub fold_refused : (level : Level) (told : NotRun) (e : Ending) → level ≡ level_of period → not_fold level (map F.placed_of (map of xs)) ≡ Some told → e ≡ misfit (misfit_of names told)
-      → EndsEarly e (change before after) (task_of (fold_files period output names))
-  fold_refused level told e same is ends = inr (misfit_of names told, ends, record {
-    texts = made.texts;
-    reads = made.reads;
-    first = fails_alike (not_fold (level_of period)) names made.texts (map of xs) (Some told) made.held (ap (λ (l : Level). not_fold l (map F.placed_of (map of xs))) (sym same) ∙ is);
-  })
+  pub fold_refused : (level : Level) (error : FoldError) (told : NotRun) (e : Ending) → level ≡ level_of period → error ≡ Not told → IsRefused error level (map of xs)
+      → e ≡ misfit (misfit_of names told) → EndsEarly e (change before after) (task_of (fold_files period output names))
+  fold_refused level error told e same is refused ends =
+      let first : IsRefused (Not told) (level_of period) (map of xs) = subst (λ (l : Level). IsRefused (Not told) l (map of xs)) same (subst (λ (x : FoldError). IsRefused x level (map of xs)) is refused) in
+      inr (misfit_of names told, ends, record {
+        texts = made.texts;
+        reads = made.reads;
+        first = fails_alike (not_fold (level_of period)) names made.texts (map of xs) (Some told) made.held first;
+      })
 
   -- out of memory after all files were read
   pub fold_short : (e : Ending) → e ≡ no_memory → EndsEarly e (change before after) (task_of (fold_files period output names))
