@@ -97,15 +97,16 @@ fold_packed level texts images image made held fold told =
 
 -- The verb.
 
--- there is an image where there is a name
-pub some_read : (before after : FilesState) (names : List (List ℕ)) {X : Type 0} (of : X → Seen) (xs ys : List X) → AreRead before after names (map of xs) → names ≢ [] → ys ≡ xs → ys ≢ []
-some_read before after names of xs ys made named same = λ none. named (no_names names made.texts xs made.reads made.held (sym same ∙ none))
-  where
-    no_names : (names texts : List (List ℕ)) (xs : List X) → ReadInOrder before after (in_turn (map_files names)) texts → AreHeld texts (map of xs) → xs ≡ [] → names ≡ []
-    no_names [] texts xs reads held none = refl
-    no_names (name ∷ names) [] xs reads held none = absurd reads
-    no_names (name ∷ names) (text ∷ texts) [] reads held none = absurd held
-    no_names (name ∷ names) (text ∷ texts) (x ∷ xs) reads held none = absurd cc
+module _ {X : Type 0} (of : X → Seen) where
+  no_names : (before after : FilesState) (names texts : List (List ℕ)) (xs : List X) → ReadInOrder before after (in_turn (map_files names)) texts → AreHeld texts (map of xs) → xs ≡ [] → names ≡ []
+  no_names before after [] texts xs reads held none = refl
+  no_names before after (name ∷ names) [] xs reads held none = absurd reads
+  no_names before after (name ∷ names) (text ∷ texts) [] reads held none = absurd held
+  no_names before after (name ∷ names) (text ∷ texts) (x ∷ xs) reads held none = absurd cc
+
+  -- there is an image where there is a name
+  pub some_read : (before after : FilesState) (names : List (List ℕ)) (xs ys : List X) → AreRead before after names (map of xs) → names ≢ [] → ys ≡ xs → ys ≢ []
+  some_read before after names xs ys made named same = λ none. named (no_names before after names made.texts xs made.reads made.held (sym same ∙ none))
 
 module _ (before after : FilesState) (period : Period) (output : List ℕ) (names : List (List ℕ)) {X : Type 0} (of : X → Seen) (xs : List X) (made : AreRead before after names (map of xs)) where
   -- all can become one, and this is their fold with its line
