@@ -12,7 +12,7 @@ pub enum FoldError {
     #[error("out of memory")]
     NoMemory,
     /// A file cannot become one with those before it.
-    #[error("a file does not follow")]
+    #[error("{} as file {}", .0.kind, .0.index)]
     Not(NotRun),
 }
 

@@ -5,3 +5,4 @@ pub mod Changes
 pub mod HeldImages
 pub mod Follows
 pub mod Asks
+pub mod Folds

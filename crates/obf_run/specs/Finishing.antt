@@ -9,11 +9,20 @@ use Rattle.run_model.specs.Inputs.{Misfit}
 use Rattle.run_model.specs.Jobs.{Outcome, Task}
 use Rattle.run_model.specs.Reads.{EndsAmong}
 use Rattle.run_model.specs.Runs.{Change, FindsMisfit, IsNotWritten, IsTooLong, IsWrittenAs, IsOutput, Receives, ReceivesLess, ReceivesNothing}
+use Rattle.obf_run.specs.declared.folding.Folded.{Folded}
 use Rattle.obf_run.specs.declared.packing.Built.{Built}
+
+-- a file of these bytes, and its line
+abbrev pub file_and_line : List ℕ → List ℕ → Outcome
+file_and_line bytes line = record { answer = line; written = Some bytes }
 
 -- a file that was built, and its line
 abbrev pub outcome_of : Built → Outcome
-outcome_of built = record { answer = built.line.items; written = Some built.bytes.items }
+outcome_of built = file_and_line built.bytes.items built.line.items
+
+-- a file in place of several, and its line
+abbrev pub outcome_of_fold : Folded → Outcome
+outcome_of_fold folded = file_and_line folded.image.bytes folded.line.items
 
 -- the answer was put, or a part of it
 abbrev pub IsPut : Ending → Change SinkState → List ℕ → Type 0

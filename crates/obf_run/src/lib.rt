@@ -11,6 +11,7 @@
 mod asking;
 mod changing;
 mod file_line;
+mod folding;
 mod images;
 mod inputs;
 mod jobs;

@@ -14,7 +14,7 @@ ghost use Rattle.stamp_core.specs.Heads.{IsGoodHead};
 ghost use Rattle.run_model.specs.Endings.{ending, name_bytes};
 ghost use Rattle.run_model.specs.Jobs.{IsPacked};
 ghost use Rattle.run_model.specs.Runs.{change};
-ghost use Rattle.obf_run.specs.Finishing.{IsFinished, IsPut, outcome_of};
+ghost use Rattle.obf_run.specs.Finishing.{IsFinished, IsPut, file_and_line, outcome_of};
 
 use crate::file_line::file_line;
 use crate::inputs::LIMIT;
@@ -54,7 +54,7 @@ pub fn packed(
     Ok(Built { bytes, line })
 }
 
-/// Writes a file, unless it is too long, and then puts its line.
+/// Writes a file that was built, unless it is too long, and then puts its line.
 pub fn finish<'a, F: Files, K: Sink>(
     files: &mut F,
     output: Name<'a>,
@@ -63,11 +63,24 @@ pub fn finish<'a, F: Files, K: Sink>(
 ) -> Status<'a>
     ensures { IsFinished (ending result) (name_bytes output.entry) (outcome_of built.now) (change (F.state files.old) (F.state files.new)) (change (K.state out.old) (K.state out.new)) }
 {
-    if built.bytes.len() > LIMIT {
+    finish_file(files, output, &built.bytes, &built.line, out)
+}
+
+/// Writes a file of these bytes, unless they are too many, and then puts its line.
+pub fn finish_file<'a, F: Files, K: Sink>(
+    files: &mut F,
+    output: Name<'a>,
+    bytes: &[u8],
+    line: &[u8],
+    out: &mut K,
+) -> Status<'a>
+    ensures { IsFinished (ending result) (name_bytes output.entry) (file_and_line bytes.now line.now) (change (F.state files.old) (F.state files.new)) (change (K.state out.old) (K.state out.new)) }
+{
+    if bytes.len() > LIMIT {
         return Status::Limit { file: output };
     }
-    match files.write(output.as_str(), &built.bytes) {
-        Ok(()) => put_answer(&built.line, out),
+    match files.write(output.as_str(), bytes) {
+        Ok(()) => put_answer(line, out),
         Err(_) => Status::WriteFault { file: output },
     }
 }

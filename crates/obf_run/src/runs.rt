@@ -1,20 +1,21 @@
 //! The top call.
 
-ghost use Rattle.std.specs.Prelude.{◌≡◌, ◌⊎◌, ◌∷◌, ◌++◌, [], Some, IfErr, IfOk};
+ghost use Rattle.std.specs.Prelude.{◌≡◌, ◌≢◌, ◌⊎◌, ◌∷◌, ◌++◌, [], Some, IfErr, IfOk};
 ghost use Rattle.run_model.specs.Endings.{NamesFile, ending, no_memory};
 ghost use Rattle.run_model.specs.Jobs.{task_of};
-ghost use Rattle.run_model.specs.Requests.{ask_files, asked, build, change_map};
+ghost use Rattle.run_model.specs.Requests.{NamesFiles, ask_files, asked, build, change_map, fold_files};
 ghost use Rattle.run_model.specs.Runs.{CausedBy, EndsSo, EndsWithCode, IsLinePut, PutsLine, ReceivesNothing, Run, StepsFor, change};
 ghost use Rattle.obf_run.specs.Finishing.{IsPut};
 
 use crate::asking::question_answer;
 use crate::changing::changed_file;
+use crate::folding::folded_file;
 use crate::images::MOST_FILES;
 use crate::jobs::{built_file, check_answer, dump_answer, nodes_answer};
-use crate::packing::{finish, put_answer};
+use crate::packing::{finish, finish_file, put_answer};
 use live_model::{NoMemory, Query, Steps, Text};
 use outside::{Files, Gate, Sink, put_all};
-use run_model::{Arguments, NO_MEMORY, Name, Request, Status, fixed_line, read_request};
+use run_model::{Arguments, NO_MEMORY, Name, Period, Request, Status, fixed_line, read_request};
 use stamp_core::Stamp;
 use std::alloc::Global;
 use std::sync::Wait;
@@ -108,6 +109,7 @@ fn answer_request<'a, F: Files, K: Sink, L: Ledger>(
     out: &mut K,
     steps: &mut Steps<L>,
 ) -> Status<'a>
+    requires named { NamesFiles request }
     ensures caused { CausedBy (ending result) (change (F.state files.old) (F.state files.new)) (change (K.state out.old) (K.state out.new)) (task_of (asked request.entry)) }
     ensures steps { StepsFor (Some (asked request.entry)) (change (F.state files.old) (F.state files.new)) (change steps.old steps.new) }
 {
@@ -131,6 +133,11 @@ fn answer_request<'a, F: Files, K: Sink, L: Ledger>(
         } => change(
             alloc, rules, base, hour, output, earlier, last, files, out, steps,
         ),
+        Request::Fold {
+            period,
+            output,
+            files: names,
+        } => fold(alloc, period, output, names, files, out),
         Request::Ask {
             query,
             files: names,
@@ -194,6 +201,33 @@ fn change<'a, F: Files, K: Sink, L: Ledger>(
         steps,
     ) {
         Ok(built) => finish(files, Name::Given(output), &built, out),
+        Err(status) => status,
+    }
+}
+
+/// Makes one map file of several, writes it, and puts its line.
+fn fold<'a, F: Files, K: Sink>(
+    alloc: Global,
+    period: Period,
+    output: &'a str,
+    names: &'a [Text],
+    files: &mut F,
+    out: &mut K,
+) -> Status<'a>
+    requires some { names.now ≢ [] }
+    ensures { CausedBy (ending result) (change (F.state files.old) (F.state files.new)) (change (K.state out.old) (K.state out.new)) (task_of (fold_files period output.now names.now)) }
+{
+    if names.len() > MOST_FILES {
+        return Status::TooManyFiles;
+    }
+    match folded_file(alloc, files, period, names) {
+        Ok(folded) => finish_file(
+            files,
+            Name::Given(output),
+            folded.image.bytes(),
+            &folded.line,
+            out,
+        ),
         Err(status) => status,
     }
 }

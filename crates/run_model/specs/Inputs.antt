@@ -7,9 +7,10 @@ use Rattle.live_model.specs.Rules.{rule_kind_name, rules_break}
 use Rattle.obf_wire.specs.Kinds.{file_name as file_kind_name}
 use Rattle.file_grammar.specs.Files.{file_break}
 use Rattle.run_model.specs.MapFiles.{map_files_in, placed_in}
-use Rattle.run_model.specs.Requests.{Asked, nodes, dump, build, change_map, ask_files, check}
+use Rattle.run_model.specs.Requests.{Asked, nodes, dump, build, change_map, fold_files, ask_files, check, level_of}
 use Rattle.run_model.specs.declared.breaks.Break.{Break}
 use Rattle.run_model.specs.declared.breaks.Break.TheVariants.{InRules, InObjects, InFile}
+use Rattle.file_order.specs.Folding.{not_fold}
 use Rattle.file_order.specs.Runs.{not_run}
 use Rattle.file_order.specs.declared.kinds.NotRun.{NotRun}
 use Rattle.file_order.specs.declared.kinds.RunKind.{RunKind}
@@ -53,6 +54,7 @@ plan_of (nodes rect base) = in_turn (input base object_text ∷ [])
 plan_of (dump base) = in_turn (input base object_text ∷ [])
 plan_of (build rules base output) = in_turn (input rules rule_table ∷ input base object_text ∷ [])
 plan_of (change_map rules base hour output changes) = in_turn (input rules rule_table ∷ input base object_text ∷ object_texts changes)
+plan_of (fold_files period output files) = in_turn (map_files files)
 plan_of (ask_files query files) = in_turn (map_files files)
 plan_of (check file) = in_turn (input file map_file ∷ [])
 
@@ -62,6 +64,7 @@ most_files = 1024
 
 -- How many files the words name, where the verb takes no more than so many of them. The texts of a change are not counted.
 abbrev pub files_named : Asked → ℕ
+files_named (fold_files period output files) = length files
 files_named (ask_files query files) = length files
 files_named a = 0
 
@@ -69,6 +72,7 @@ files_named a = 0
 abbrev pub output_of : Asked → Option (List ℕ)
 output_of (build rules base output) = Some output
 output_of (change_map rules base hour output changes) = Some output
+output_of (fold_files period output files) = Some output
 output_of a = None
 
 -- how the bytes of a file break first; none where they are in the grammar
@@ -97,8 +101,9 @@ name_at names index = unwrap_or (slice_get names index) []
 abbrev pub misfit_of : List (List ℕ) → NotRun → Misfit
 misfit_of names told = record { name = name_at names told.index; kind = told.kind; index = told.index }
 
--- The first of good files that does not follow, as their texts tell: that cannot be laid over those before it. Every file of the other
--- verbs stands alone.
+-- The first of good files that does not follow, as their texts tell: that cannot become one with those before it, or cannot be laid over
+-- them. Every file of the other verbs stands alone.
 abbrev pub misfit_in : Asked → List (List ℕ) → Option Misfit
+misfit_in (fold_files period output files) texts = option_map (misfit_of files) (not_fold (level_of period) (map placed_in (map_files_in texts)))
 misfit_in (ask_files query files) texts = option_map (misfit_of files) (not_run (map placed_in (map_files_in texts)))
 misfit_in a texts = None

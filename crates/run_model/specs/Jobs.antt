@@ -1,5 +1,6 @@
 -- What each verb prints, and what it writes.
 use Rattle.std.specs.Prelude.{◌≡◌, ℕ, List, [], ◌∷◌, ◌++◌, length, map, Option, Some, None, IfSome}
+use Rattle.live_model.specs.declared.levels.Level.{Level}
 use Rattle.live_model.specs.declared.levels.Level.TheVariants.{Base, Hour}
 use Rattle.live_model.specs.declared.objects.Entity.{Entity}
 use Rattle.live_model.specs.declared.objects.Line.{Line}
@@ -9,7 +10,7 @@ use Rattle.live_model.specs.declared.rows.Row.{Row}
 use Rattle.live_model.specs.declared.rules.Rule.{Rule}
 use Rattle.live_model.specs.CanonicalLines.{lines_text, nodes_in}
 use Rattle.live_model.specs.Ids.{ordinal}
-use Rattle.live_model.specs.Maps.{answer, laid, map_of, overlay, published}
+use Rattle.live_model.specs.Maps.{answer, folded, laid, map_of, overlay, published}
 use Rattle.live_model.specs.OplTexts.{OplText}
 use Rattle.live_model.specs.Rules.{RuleText}
 use Rattle.live_model.specs.Stores.{apply}
@@ -21,8 +22,8 @@ use Rattle.file_grammar.specs.Files.{IsFile, head_numbers}
 use Rattle.obf_writer.specs.PackedFile.{IsPackedFile}
 use Rattle.file_lines.specs.FileLines.{file_line}
 use Rattle.query_text.specs.Lines.{answer_text}
-use Rattle.run_model.specs.Requests.{Asked, nodes, dump, build, change_map, ask_files, check}
-use Rattle.run_model.specs.MapFiles.{MapFile, map_files_in, overlays_in}
+use Rattle.run_model.specs.Requests.{Asked, nodes, dump, build, change_map, fold_files, ask_files, check, level_of}
+use Rattle.run_model.specs.MapFiles.{MapFile, first_rules, fold_head, map_files_in, overlays_in}
 use Rattle.run_model.specs.Inputs.{Misfit, Plan, files_named, misfit_in, output_of, plan_of}
 
 -- what is printed, and the bytes of the file that is written, where one is
@@ -102,6 +103,12 @@ pub record IsChanged (hour : CivilHour) (table text : List ℕ) (texts : List (L
   pub changes : AreTexts texts (earlier ++ last ∷ [])
   pub packed : IsPacked (hour_parts hour rules (published base earlier) last) outcome
 
+-- what files become as one: all objects that any of them marks, by their ordinals, each with the records of the last that marks it
+abbrev pub fold_parts : Level → List MapFile → Parts
+fold_parts level files =
+    let o = folded (overlays_in files) in
+    record { head = fold_head level files; rules = first_rules files; marks = map ordinal o.marks; records = o.records }
+
 -- the rows of a question over the records of the first file, with the others laid over them in order
 abbrev pub rows_over : Query → List MapFile → List Row
 rows_over query [] = []
@@ -125,6 +132,7 @@ Job (nodes rect base) (text ∷ []) outcome = IsAnswered text (λ store. lines_t
 Job (dump base) (text ∷ []) outcome = IsAnswered text lines_text outcome
 Job (build rules base output) (table ∷ text ∷ []) outcome = IsBuilt table text outcome
 Job (change_map rules base hour output changes) (table ∷ text ∷ texts) outcome = IsChanged hour table text texts outcome
+Job (fold_files period output files) texts outcome = IsPacked (fold_parts (level_of period) (map_files_in texts)) outcome
 Job (ask_files query files) texts outcome = outcome ≡ prints (answer_text (rows_over query (map_files_in texts)))
 Job (check file) (bytes ∷ []) outcome = IsChecked bytes outcome
 Job asked texts outcome = ⊥

@@ -1,5 +1,7 @@
 -- What map files hold, as their bytes tell.
-use Rattle.std.specs.Prelude.{◌==◌, ℕ, List, [], map, sum, if◌then◌else◌, Option, Some, None, unwrap_or}
+use Rattle.std.specs.Prelude.{◌==◌, ℕ, List, [], ◌∷◌, map, sum, if◌then◌else◌, Option, Some, None, unwrap_or}
+use Rattle.std.specs.List.{last_or}
+use Rattle.std.specs.Option.{option_and_then}
 use Rattle.live_model.specs.declared.levels.Level.{Level}
 use Rattle.live_model.specs.declared.levels.Level.TheVariants.{Base, Hour, Day, Month}
 use Rattle.live_model.specs.declared.queries.Query.{Query}
@@ -80,6 +82,26 @@ placed_in file = record { head = file.head; rules = file.rules }
 -- what map files lay over others, one after another
 abbrev pub overlays_in : List MapFile → List Overlay
 overlays_in files = map (λ f. f.overlay) files
+
+-- One file in place of several.
+
+-- the first hour of the first file
+abbrev pub first_hour : List MapFile → Option CivilHour
+first_hour [] = None
+first_hour (file ∷ files) = file.head.first
+
+-- the last hour of the last
+abbrev pub last_hour : List MapFile → Option CivilHour
+last_hour files = option_and_then (λ f. f.head.last) (last_or None files)
+
+-- the rules of the first, which are those of all where they become one
+abbrev pub first_rules : List MapFile → List Rule
+first_rules [] = []
+first_rules (file ∷ files) = file.rules
+
+-- of this level, from the first hour to the last
+abbrev pub fold_head : Level → List MapFile → Head
+fold_head level files = record { level = level; first = first_hour files; last = last_hour files }
 
 -- Questions.
 

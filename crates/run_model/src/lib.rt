@@ -20,5 +20,5 @@ pub use breaks::Break;
 pub use file_order::RunKind;
 pub use laws::outcomes_are_one;
 pub use name::Name;
-pub use request::{Request, Verb, read_request};
+pub use request::{Period, Request, Verb, read_request};
 pub use status::{NO_MEMORY, Status, fixed_line};

@@ -1,11 +1,12 @@
 //! The words that the program takes.
 
-ghost use Rattle.std.specs.Prelude.{◌≡◌, ◌∷◌, [], Some, None, IfErr, IfOk, MatchOption};
+ghost use Rattle.std.specs.Prelude.{◌≡◌, ◌⊎◌, ◌∷◌, [], Some, None, IfErr, IfOk, IfSome, MatchOption};
+ghost use Rattle.live_model.specs.declared.levels.Level.TheVariants.{Day as DayLevel, Month as MonthLevel};
 ghost use Rattle.run_model.specs.declared.request.Verb.TheVariants.{Ask, Nodes};
-ghost use Rattle.run_model.specs.Requests.{BeginsQuestion, asked, asked_by, asked_change, asked_query, asked_with, verb_of};
+ghost use Rattle.run_model.specs.Requests.{BeginsQuestion, NamesFiles, asked, asked_by, asked_change, asked_fold, asked_query, asked_with, level_of, period_of, verb_of};
 
 use hour_words::read_hour;
-use live_model::{Mem, NoMemory, Query, Rect, Text};
+use live_model::{Level, Mem, NoMemory, Query, Rect, Text};
 use query_text::{QueryError, read_query};
 use stamp_core::Stamp;
 use std::alloc::Global;
@@ -17,8 +18,29 @@ pub enum Verb {
     Dump,
     Build,
     Change,
+    Fold,
     Ask,
     Check,
+}
+
+/// What a map file in place of others may cover.
+#[derive(Clone, Copy, PartialEq, Eq, Debug)]
+pub enum Period {
+    Day,
+    Month,
+}
+
+impl Period {
+    /// The level of its files.
+    pub fn level(self) -> Level
+        ensures level { result ≡ level_of self }
+        ensures above { (result ≡ DayLevel) ⊎ (result ≡ MonthLevel) }
+    {
+        match self {
+            Period::Day => Level::Day,
+            Period::Month => Level::Month,
+        }
+    }
 }
 
 /// What is asked for. Files are named as they were given.
@@ -48,6 +70,12 @@ pub enum Request<'a> {
         earlier: &'a [Text],
         last: &'a str,
     },
+    /// One map file of a day or a month, to be written, in place of these map files.
+    Fold {
+        period: Period,
+        output: &'a str,
+        files: &'a [Text],
+    },
     /// The rows of a question over map files.
     Ask {
         query: Query,
@@ -60,10 +88,11 @@ pub enum Request<'a> {
 }
 
 /// What the words ask for. `None` exactly where they are none of `nodes RECT BASE`, `dump BASE`, `build RULES BASE OUT`,
-/// `change RULES BASE STAMP OUT CHANGE ..`, `ask QUERY FILE ..` and `check FILE`. `NoMemory` only where the first word is `ask`: a
-/// question takes memory as it is read, also where it turns out to be none.
+/// `change RULES BASE STAMP OUT CHANGE ..`, `fold LEVEL OUT FILE ..`, `ask QUERY FILE ..` and `check FILE`. `NoMemory` only where the
+/// first word is `ask`: a question takes memory as it is read, also where it turns out to be none.
 pub fn read_request(alloc: Global, words: &[Text]) -> Mem<Option<Request<'_>>>
     ensures read { IfOk result (λ found. MatchOption found (asked_by words.now ≡ None) (λ r. asked_by words.now ≡ Some (asked r))) }
+    ensures named { IfOk result (λ found. IfSome found NamesFiles) }
     ensures short { IfErr result (λ _. BeginsQuestion words.now) }
 {
     let [word, rest @ ..] = words else {
@@ -84,6 +113,7 @@ fn read_verb(word: &str) -> Option<Verb>
         "dump" => Some(Verb::Dump),
         "build" => Some(Verb::Build),
         "change" => Some(Verb::Change),
+        "fold" => Some(Verb::Fold),
         "ask" => Some(Verb::Ask),
         "check" => Some(Verb::Check),
         _ => None,
@@ -93,6 +123,7 @@ fn read_verb(word: &str) -> Option<Verb>
 /// What a verb asks for with these words.
 fn read_words(alloc: Global, verb: Verb, words: &[Text]) -> Mem<Option<Request<'_>>>
     ensures read { IfOk result (λ found. MatchOption found (asked_with verb words.now ≡ None) (λ r. asked_with verb words.now ≡ Some (asked r))) }
+    ensures named { IfOk result (λ found. IfSome found NamesFiles) }
     ensures short { IfErr result (λ _. verb ≡ Ask) }
 {
     match (verb, words) {
@@ -114,6 +145,7 @@ fn read_words(alloc: Global, verb: Verb, words: &[Text]) -> Mem<Option<Request<'
         (Verb::Change, [rules, base, stamp, output, changes @ ..]) => {
             Ok(read_change(rules, base, stamp, output, changes))
         }
+        (Verb::Fold, [level, output, files @ ..]) => Ok(read_fold(level, output, files)),
         (Verb::Ask, [query, files @ ..]) => read_ask(alloc, query, files),
         (Verb::Check, [file]) => {
             let file = file.as_str();
@@ -125,7 +157,8 @@ fn read_words(alloc: Global, verb: Verb, words: &[Text]) -> Mem<Option<Request<'
 
 /// What `nodes` asks for with these words.
 fn read_nodes<'a>(rect: &Text, base: &'a Text) -> Option<Request<'a>>
-    ensures { MatchOption result (asked_with Nodes (rect.now ∷ base.now ∷ []) ≡ None) (λ r. asked_with Nodes (rect.now ∷ base.now ∷ []) ≡ Some (asked r)) }
+    ensures read { MatchOption result (asked_with Nodes (rect.now ∷ base.now ∷ []) ≡ None) (λ r. asked_with Nodes (rect.now ∷ base.now ∷ []) ≡ Some (asked r)) }
+    ensures named { IfSome result NamesFiles }
 {
     let Some(rect) = Rect::read(rect.as_str()) else {
         return None;
@@ -142,7 +175,8 @@ fn read_change<'a>(
     output: &'a Text,
     changes: &'a [Text],
 ) -> Option<Request<'a>>
-    ensures { MatchOption result (asked_change rules.now base.now stamp.now output.now changes.now ≡ None) (λ r. asked_change rules.now base.now stamp.now output.now changes.now ≡ Some (asked r)) }
+    ensures read { MatchOption result (asked_change rules.now base.now stamp.now output.now changes.now ≡ None) (λ r. asked_change rules.now base.now stamp.now output.now changes.now ≡ Some (asked r)) }
+    ensures named { IfSome result NamesFiles }
 {
     let Some((last, earlier)) = changes.split_last() else {
         return None;
@@ -164,9 +198,40 @@ fn read_change<'a>(
     })
 }
 
+/// What `fold` asks for with these words.
+fn read_fold<'a>(level: &Text, output: &'a Text, files: &'a [Text]) -> Option<Request<'a>>
+    ensures read { MatchOption result (asked_fold level.now output.now files.now ≡ None) (λ r. asked_fold level.now output.now files.now ≡ Some (asked r)) }
+    ensures named { IfSome result NamesFiles }
+{
+    if files.is_empty() {
+        return None;
+    }
+    let Some(period) = read_period(level.as_str()) else {
+        return None;
+    };
+    let output = output.as_str();
+    Some(Request::Fold {
+        period,
+        output,
+        files,
+    })
+}
+
+/// The period of this name.
+fn read_period(word: &str) -> Option<Period>
+    ensures { result ≡ period_of word.now }
+{
+    match word {
+        "day" => Some(Period::Day),
+        "month" => Some(Period::Month),
+        _ => None,
+    }
+}
+
 /// What `ask` asks for with these words.
 fn read_ask<'a>(alloc: Global, query: &Text, files: &'a [Text]) -> Mem<Option<Request<'a>>>
-    ensures { IfOk result (λ found. MatchOption found (asked_query query.now files.now ≡ None) (λ r. asked_query query.now files.now ≡ Some (asked r))) }
+    ensures read { IfOk result (λ found. MatchOption found (asked_query query.now files.now ≡ None) (λ r. asked_query query.now files.now ≡ Some (asked r))) }
+    ensures named { IfOk result (λ found. IfSome found NamesFiles) }
 {
     if files.is_empty() {
         return Ok(None);

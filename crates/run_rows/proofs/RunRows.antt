@@ -17,6 +17,7 @@ use Rattle.live_model.specs.declared.levels.Level.TheVariants.{Hour, Day, Month}
 use Rattle.live_model.specs.declared.objects.Entity.{Entity}
 use Rattle.live_model.specs.declared.objects.Line.TheVariants.{Live}
 use Rattle.live_model.specs.declared.ids.Kind.TheVariants.{Node}
+use Rattle.live_model.specs.Ids.{ordinal}
 use Rattle.live_model.specs.declared.opl.OplKind.TheVariants as opl
 use Rattle.obf_wire.specs.declared.file.FileBreak.{FileBreak}
 use Rattle.live_model.specs.declared.points.Rect.{Rect}
@@ -69,12 +70,13 @@ use Rattle.outside.specs.Sinks.{SinkState}
 use Rattle.outside.specs.Whole.{IsWhole}
 use Rattle.run_model.specs.declared.breaks.Break.{Break}
 use Rattle.run_model.specs.declared.breaks.Break.TheVariants.{InRules, InObjects, InFile}
-use Rattle.run_model.specs.MapFiles.{map_file_in, parts_in, placed_in}
-use Rattle.run_model.specs.Requests.{Asked, BeginsQuestion, ask_files, asked_by, nodes, dump, build, check}
+use Rattle.run_model.specs.declared.request.Period.TheVariants as period
+use Rattle.run_model.specs.MapFiles.{MapFile, map_file_in, parts_in, placed_in}
+use Rattle.run_model.specs.Requests.{Asked, BeginsQuestion, ask_files, asked_by, nodes, dump, build, check, fold_files}
 use Rattle.file_order.specs.declared.kinds.RunKind.TheVariants as kind
 use Rattle.run_model.specs.Inputs.{Input, Misfit, files_named, misfit_in, input, in_turn, plan_of, output_of, break_in, break_text, no_more, reads, rule_table, object_text, map_file}
 use Rattle.file_lines.specs.FileLines.{file_line}
-use Rattle.run_model.specs.Jobs.{IsStoreOf, Job, Outcome, base_head, prints, task_of}
+use Rattle.run_model.specs.Jobs.{IsStoreOf, Job, Outcome, Parts, base_head, fold_parts, prints, task_of}
 use Rattle.run_model.specs.Endings.{Ending, done, bad_words, too_many_files, misfit, refused, read_fault, write_fault, answer_fault, no_memory, over_limit, code_of, ending_line}
 use Rattle.run_model.specs.Reads.{limit, ReadsBroken, ReadsGood, ReadInOrder, EndsAmong}
 use Rattle.run_model.specs.Runs.{Cause, Caused, Completes, Holds, IsTooLong, IsWrittenAs, Keeps, NoFault, Run, PutsLine, change, changed_by, due_for, first_stop, stop_in}
@@ -109,6 +111,14 @@ words_ask_text : asked_by (codes "ask" ∷ codes "A STRASSE" ∷ codes "a" ∷ [
 unfolding opened
 words_ask_text = refl
 
+words_fold : asked_by (codes "fold" ∷ codes "day" ∷ codes "d.obf" ∷ codes "h1.obf" ∷ codes "h2.obf" ∷ [])
+    ≡ Some (fold_files period.Day (codes "d.obf") (codes "h1.obf" ∷ codes "h2.obf" ∷ []))
+words_fold = refl
+
+-- one file may become a month, under its own name
+words_fold_alone : asked_by (codes "fold" ∷ codes "month" ∷ codes "a" ∷ codes "a" ∷ []) ≡ Some (fold_files period.Month (codes "a") (codes "a" ∷ []))
+words_fold_alone = refl
+
 words_build : asked_by (codes "build" ∷ codes "a.rules" ∷ codes "a.opl" ∷ codes "a.obf" ∷ []) ≡ Some (build (codes "a.rules") (codes "a.opl") (codes "a.obf"))
 words_build = refl
 
@@ -138,6 +148,15 @@ dump_miscounted = (refl, refl)
 
 check_miscounted : (asked_by (codes "check" ∷ codes "0 0 1 1" ∷ codes "b" ∷ []) ≡ None) × (asked_by (codes "check" ∷ codes "a" ∷ codes "b" ∷ codes "c" ∷ []) ≡ None)
 check_miscounted = (refl, refl)
+
+-- a level and an output without a file
+fold_miscounted : (asked_by (codes "fold" ∷ []) ≡ None) × (asked_by (codes "fold" ∷ codes "day" ∷ []) ≡ None) × (asked_by (codes "fold" ∷ codes "day" ∷ codes "a" ∷ []) ≡ None)
+fold_miscounted = (refl, refl, refl)
+
+-- an hour is no level that files may become, and letters keep their case
+fold_of_no_level : (asked_by (codes "fold" ∷ codes "hour" ∷ codes "a" ∷ codes "b" ∷ []) ≡ None) × (asked_by (codes "fold" ∷ codes "Day" ∷ codes "a" ∷ codes "b" ∷ []) ≡ None)
+    × (asked_by (codes "fold" ∷ [] ∷ codes "a" ∷ codes "b" ∷ []) ≡ None)
+fold_of_no_level = (refl, refl, refl)
 
 -- a question without a file, and files without a question
 ask_miscounted : (asked_by (codes "ask" ∷ codes "A STRASSE" ∷ []) ≡ None) × (asked_by (codes "ask" ∷ []) ≡ None) × (asked_by (codes "ask" ∷ codes "a" ∷ codes "b" ∷ []) ≡ None)
@@ -192,6 +211,14 @@ of_ask q = refl
 named_by_ask : (q : Query) → (files_named (ask_files q (codes "a" ∷ codes "a" ∷ [])) ≡ 2) × (output_of (ask_files q (codes "a" ∷ [])) ≡ None) × (files_named (dump (codes "a")) ≡ 0)
 named_by_ask q = (refl, refl, refl)
 
+-- a file that becomes one with others is read in its turn, and the output is none of them
+of_fold : plan_of (fold_files period.Day (codes "o") (codes "a" ∷ codes "b" ∷ []))
+    ≡ reads (record { name = codes "a"; grammar = map_file }) (λ one. reads (record { name = codes "b"; grammar = map_file }) (λ other. no_more))
+of_fold = refl
+
+named_by_fold : (files_named (fold_files period.Month (codes "o") (codes "a" ∷ codes "a" ∷ [])) ≡ 2) × (output_of (fold_files period.Month (codes "o") (codes "a" ∷ [])) ≡ Some (codes "o"))
+named_by_fold = (refl, refl)
+
 of_build : plan_of (build (codes "r") (codes "b") (codes "o"))
     ≡ reads (record { name = codes "r"; grammar = rule_table }) (λ table. reads (record { name = codes "b"; grammar = object_text }) (λ text. no_more))
 of_build = refl
@@ -217,11 +244,19 @@ far_zoom_break = InRules (record { at = 10; kind = rule.BadZoom })
 abbrev wide : ℕ → List ℕ
 wide n = 0 ∷ 0 ∷ 0 ∷ 0 ∷ 0 ∷ 0 ∷ 0 ∷ n ∷ []
 
+-- sections and marks of no records, and the version again
+abbrev bare_rest : ℕ → List ℕ
+bare_rest again =
+    (54 ∷ wide 9) ++ (14 ∷ wide 0) ++ (62 ∷ wide 18) ++ (14 ∷ wide 0) ++ (22 ∷ wide 0) ++ (70 ∷ wide 0)
+    ++ (78 ∷ wide 36) ++ (14 ∷ wide 9) ++ (14 ∷ wide 0) ++ (22 ∷ wide 9) ++ (14 ∷ wide 0) ++ (134 ∷ 1 ∷ wide 2) ++ 10 ∷ 0 ∷ 128 ∷ 2 ∷ again ∷ []
+
 -- a base of no rules and no records, whose last byte is this
 abbrev bare_base : ℕ → ℕ → List ℕ
-bare_base version again =
-    (8 ∷ version ∷ 18 ∷ 6 ∷ 8 ∷ 0 ∷ 16 ∷ 0 ∷ 24 ∷ 0 ∷ 26 ∷ 0 ∷ []) ++ (54 ∷ wide 9) ++ (14 ∷ wide 0) ++ (62 ∷ wide 18) ++ (14 ∷ wide 0) ++ (22 ∷ wide 0) ++ (70 ∷ wide 0)
-    ++ (78 ∷ wide 36) ++ (14 ∷ wide 9) ++ (14 ∷ wide 0) ++ (22 ∷ wide 9) ++ (14 ∷ wide 0) ++ (134 ∷ 1 ∷ wide 2) ++ 10 ∷ 0 ∷ 128 ∷ 2 ∷ again ∷ []
+bare_base version again = (8 ∷ version ∷ 18 ∷ 6 ∷ 8 ∷ 0 ∷ 16 ∷ 0 ∷ 24 ∷ 0 ∷ 26 ∷ 0 ∷ []) ++ bare_rest again
+
+-- the file of one hour of 2024-02-29 of no rules and no records; the hour 21 is 137, the next 138, and so on
+abbrev bare_hour : ℕ → List ℕ
+bare_hour hour = (8 ∷ 2 ∷ 18 ∷ 14 ∷ 8 ∷ 1 ∷ 16 ∷ hour ∷ 199 ∷ 144 ∷ 197 ∷ 7 ∷ 24 ∷ hour ∷ 199 ∷ 144 ∷ 197 ∷ 7 ∷ 26 ∷ 0 ∷ []) ++ bare_rest 2
 
 rules_break_row : break_in rule_table far_zoom ≡ Some far_zoom_break
 unfolding opened
@@ -279,6 +314,21 @@ bases_over q = (refl, refl)
 -- a base alone is no misfit of another verb
 base_checked : misfit_in (check (codes "a")) (bare_base 2 2 ∷ []) ≡ None
 base_checked = refl
+
+-- two hours of a day become one, in their order; not turned round, not twice one hour, and not with a base
+hours_of_a_day : (misfit_in (fold_files period.Day (codes "o") (codes "a" ∷ codes "b" ∷ [])) (bare_hour 137 ∷ bare_hour 138 ∷ []) ≡ None)
+    × (misfit_in (fold_files period.Day (codes "o") (codes "b" ∷ codes "a" ∷ [])) (bare_hour 138 ∷ bare_hour 137 ∷ []) ≡ Some (record { name = codes "a"; kind = kind.StampNotLater; index = 1 }))
+    × (misfit_in (fold_files period.Month (codes "o") (codes "a" ∷ codes "a" ∷ [])) (bare_hour 137 ∷ bare_hour 137 ∷ []) ≡ Some (record { name = codes "a"; kind = kind.StampNotLater; index = 1 }))
+    × (misfit_in (fold_files period.Day (codes "o") (codes "a" ∷ codes "b" ∷ [])) (bare_base 2 2 ∷ bare_hour 137 ∷ []) ≡ Some (record { name = codes "a"; kind = kind.IsBase; index = 0 }))
+unfolding opened
+hours_of_a_day = (refl, refl, refl, refl)
+
+-- the file of the day from the first hour to the last is written, and its line is printed
+folded_of_two : (bytes : List ℕ) → IsPackedFile bytes (head_numbers (record { level = Day; first = Some (civil_hour 2024 2 29 21); last = Some (civil_hour 2024 2 29 22) })) [] [] []
+    → Job (fold_files period.Day (codes "o") (codes "a" ∷ codes "b" ∷ [])) (bare_hour 137 ∷ bare_hour 138 ∷ [])
+    (record { answer = codes "day 2024-02-29-21 2024-02-29-22 0 0" ++ 10 ∷ []; written = Some bytes })
+unfolding opened
+folded_of_two bytes file = record { bytes = bytes; file = file; same = refl }
 
 -- a map of no records has no rows
 bare_rows : Job (ask_files (View (rect 0 0 3600000000 1800000000) 22) (codes "a" ∷ [])) (bare_base 2 2 ∷ []) (prints (codes "rows 0" ++ 10 ∷ []))
@@ -692,6 +742,26 @@ built_of_two bytes file = record {
   made = record { lines = Live tagged ∷ Live plain ∷ []; spelled = record { spelled = refl; within = omega arith }; same = refl };
   packed = record { bytes = bytes; file = file; same = refl };
 }
+
+-- One file in place of two.
+
+-- a file of one hour that marks the tagged node and has these records
+abbrev marking : ℕ → List Rec → MapFile
+marking hour records = record {
+  head = head Hour (civil_hour 2024 2 29 hour) (civil_hour 2024 2 29 hour);
+  rules = drawn ∷ [];
+  overlay = record { marks = tagged.id ∷ []; records = records };
+}
+
+-- the file of both hours, which marks the node once and has these records
+abbrev marked : List Rec → Parts
+marked records = record { head = head Day (civil_hour 2024 2 29 21) (civil_hour 2024 2 29 22); rules = drawn ∷ []; marks = ordinal tagged.id ∷ []; records = records }
+
+-- the later hour decides: what it has no record of has none, and the mark stays; what it has a record of has this one alone
+later_decides : (fold_parts Day (marking 21 (only ∷ []) ∷ marking 22 [] ∷ []) ≡ marked []) × (fold_parts Day (marking 21 [] ∷ marking 22 (only ∷ []) ∷ []) ≡ marked (only ∷ []))
+    × (fold_parts Day (marking 21 (only ∷ []) ∷ marking 22 (only ∷ []) ∷ []) ≡ marked (only ∷ []))
+unfolding opened
+later_decides = (refl, refl, refl)
 
 -- 2024-02-29-21 is an hour of the calendar
 hour_is_civil : IsCivilHour (civil_hour 2024 2 29 21)
