@@ -1,0 +1,12 @@
+//! Folds of the images of a plan.
+//!
+//! The one idea: a set plans which of its files are to become one, and a fold of images makes one of several; what a plan asks of the
+//! image that finishes it is just what a fold gives. So whoever stands on both can plan, fold, finish and bring the fold in, and checks
+//! nothing else.
+//!
+//! The layer above may rely on this: of a plan that fits a set whose hours rise, `fold` refuses no image, and its image finishes the plan.
+#![tactic(auto)]
+
+mod laws;
+
+pub use laws::folds_finish_plans;
