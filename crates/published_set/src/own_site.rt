@@ -13,7 +13,7 @@ use live_model::Mem;
 use std::alloc::Global;
 use std::marker::Model;
 
-/// A set that stands, with the counts of a site. It changes by its own calls alone.
+/// A set that stands, with the counts of a site. A plan leaves the set as it is, and so does a commit that is not Ok.
 #[derive(Drop)]
 pub struct OwnSite {
     set: OverlaySet,
@@ -74,8 +74,8 @@ impl OwnSite {
 impl FoldSite for OwnSite {
     ghost site = { λ s. s };
 
-    /// The plan of the first day or month that is to be folded, or `None` where there is none. The set stays as it is. `NoMemory`
-    /// where memory was refused; the call is not counted then.
+    /// The plan of the first day or month that is to be folded, or `None` exactly where there is none. The set stays as it is.
+    /// `NoMemory` where memory was refused; the counts stay too.
     fn plan(&mut self, alloc: Global) -> Mem<Option<FoldPlan>>
         ensures moved { IsMoved self.old self.new }
         ensures standing { SiteStands self.new }
@@ -90,8 +90,8 @@ impl FoldSite for OwnSite {
         Ok(plan)
     }
 
-    /// Puts a fold in the place of the files of its plan, which has to fit the set. It takes no memory, so it is never refused for
-    /// that. `Overtaken` exactly where a file of the plan is not in the set, with the first such number; the set stays as it was.
+    /// Puts a fold in the place of the files of its plan, which has to fit the set. `Overtaken` exactly where a file of the plan is not
+    /// in the set, with the first such number; the set stays as it was. It takes no memory, and `NoMemory` never comes.
     fn commit(&mut self, _alloc: Global, work: FoldWork) -> Result<(), CommitError>
         requires fits { Fits work self.old.state }
         ensures moved { IsMoved self.old self.new }

@@ -12,10 +12,10 @@ use std::alloc::Global;
 /// A place where folds are planned and committed, such as a set that others change too.
 ///
 /// `site` is what is known of it: the rules and the base lines of its sets, the state that it saw last, and three counts: of the
-/// calls of `plan` that were Ok, of the commits that were Ok, and of those that were overtaken. Such a call raises its count by one,
-/// up to 2^64 - 1, and no other. Each call keeps rules and base lines, and leaves the state as it was or puts one in its place that is
-/// reached from it by publications and folds that may come, each after the one before. After each call the state stands over the
-/// base lines with the rules, and all lines are good.
+/// calls of `plan` that were Ok, of the commits that were Ok, and of those that were overtaken. Each such call raises its own count
+/// by one, up to 2^64 - 1, and no call changes another. Each call keeps rules and base lines, and leaves the state as it was or puts
+/// one in its place that is reached from it by publications and folds that may come, each after the one before. After each call the
+/// state stands over the base lines with the rules, and all lines are good.
 pub trait FoldSite {
     ghost site: { Self → Site };
 
