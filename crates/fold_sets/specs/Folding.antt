@@ -17,6 +17,12 @@ pub record CanBecomeOne (level : Level) (images : List Seen) : Type 0 where
   pub level_is : (level ≡ Day) ⊎ (level ≡ Month)
   pub follow : not_fold level (map placed_of images) ≡ None
 
+-- the plan fits a set whose hours rise
+pub record FitsOne (plan : FoldPlan) : Type 0 where
+  pub state : State
+  pub rising : AreRising state.history
+  pub fits : Fits plan state
+
 -- the images of a plan that fits a set whose hours rise can become one of its level
 abbrev pub AcceptedLaw : Type 0
 AcceptedLaw = (plan : FoldPlan) (s : State) (images : List Seen) → AreRising s.history → Fits plan s → images_in images ≡ images_of plan.files → CanBecomeOne plan.level images

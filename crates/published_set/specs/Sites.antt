@@ -1,9 +1,9 @@
 -- What is known of a place where folds are planned and committed.
-use Rattle.std.specs.Prelude.{◌≡◌, ◌≢◌, ℕ, List, ◌+◌, ◌-◌, ◌^◌, min, Option, Some, None, Result, Ok, Err}
+use Rattle.std.specs.Prelude.{◌≡◌, ◌≢◌, ◌<◌, ℕ, List, ◌+◌, ◌-◌, ◌^◌, min, Option, Some, None, Result, Ok, Err}
 use Rattle.std.specs.Option.{option_map}
 use Rattle.live_model.specs.declared.objects.Line.{Line}
 use Rattle.live_model.specs.declared.rules.Rule.{Rule}
-use Rattle.overlay_set.specs.Sets.{State}
+use Rattle.overlay_set.specs.Sets.{State, age}
 use Rattle.overlay_set.specs.SetLaws.{IsReached}
 use Rattle.overlay_set.specs.Periods.{foldable}
 use Rattle.overlay_set.specs.Swaps.{FoldPlan, Fits, IsLater, missing, plan_of}
@@ -60,6 +60,10 @@ pub record IsFolded (plan : FoldPlan) (before after : Site) : Type 0 where
   pub reached : IsReached before.rules before.base before.state found
   pub all : missing plan found ≡ None
   pub folded : after.state ≡ with_fold plan found
+
+-- so a commit that is Ok brings a fold in: a number above all that the site had seen is there then
+abbrev pub FoldedLaw : Type 0
+FoldedLaw = (plan : FoldPlan) (before after : Site) → Fits plan before.state → IsFolded plan before after → SiteStands after → age before.state < age after.state
 
 -- why a commit was answered so
 abbrev pub IsAnswered : {T : Type 0} → FoldPlan → Site → Site → Result T CommitError → Type 0

@@ -2,7 +2,7 @@
 
 ghost use Rattle.std.specs.Prelude.{IfOk};
 ghost use Rattle.overlay_set.specs.Swaps.{Fits};
-ghost use Rattle.published_set.specs.Sites.{CommitCounted, IsAnswered, IsMoved, IsPlanned, MovedLaw, PlanCounted, Site, SiteStands};
+ghost use Rattle.published_set.specs.Sites.{CommitCounted, FoldedLaw, IsAnswered, IsMoved, IsPlanned, MovedLaw, PlanCounted, Site, SiteStands};
 
 use crate::errors::CommitError;
 use crate::plan::{FoldPlan, FoldWork};
@@ -39,7 +39,9 @@ pub trait FoldSite {
         ensures counted { CommitCounted (site self.old) (site self.new) result };
 }
 
-/// That the state which a site sees after a call is the one seen before or a later one. There is nothing to run.
+/// That the state which a site sees after a call is the one seen before or a later one, and that a commit which is Ok brings a fold
+/// in: its greatest number is above all that the site had seen. There is nothing to run.
 pub fn sites_go_on()
-    ensures { MovedLaw }
+    ensures moved { MovedLaw }
+    ensures folded { FoldedLaw }
 {}
