@@ -11,22 +11,13 @@ ghost use Rattle.fold_sets.specs.Folding.{CanBecomeOne, FitsOne};
 use fold_merge::{FoldError, fold};
 use live_model::{Level, Mem, NoMemory};
 use obf_reader::Image;
-use published_set::{FoldPlan, FoldWork};
+use published_set::FoldPlan;
 use std::alloc::Global;
 use std::sync::Arc;
 
-/// The plan with the fold of its images, ready to be put in the place of its files. The plan has to fit a set whose hours rise, so
-/// that its images can become one. `NoMemory` where memory was refused.
-pub fn fold_plan(alloc: Global, plan: FoldPlan) -> Mem<FoldWork>
-    requires { FitsOne plan }
-    ensures { IfOk result (λ work. work ≡ plan) }
-{
-    let image = fold_planned(alloc, &plan)?;
-    Ok(plan.finish(image))
-}
-
-/// The fold of the images of a plan.
-fn fold_planned(alloc: Global, plan: &FoldPlan) -> Mem<Arc<Image>>
+/// The fold of the images of a plan, which finishes it. The plan has to fit a set whose hours rise, so that its images can become one.
+/// `NoMemory` where memory was refused.
+pub fn fold_plan(alloc: Global, plan: &FoldPlan) -> Mem<Arc<Image>>
     requires { FitsOne plan.now }
     ensures { IfOk result (λ image. image_of (arc_value image) ≡ fold_image plan.now.level (images_of plan.now.files)) }
 {
