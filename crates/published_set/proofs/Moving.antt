@@ -1,17 +1,12 @@
 -- Sites whose state stays, or gets a fold.
-use Rattle.std.proofs.Common.{◌≡◌, ℕ, List, [], ◌∷◌, Some, None, refl, sym, ap, ap₂, ◌∙◌}
-use Rattle.std.specs.Prelude.{slice_range}
-use Rattle.std.specs.Option.{option_map}
-use Rattle.overlay_set.specs.Periods.{foldable}
-use Rattle.overlay_set.specs.Sets.{MapFile, State, images_of}
-use Rattle.overlay_set.specs.Swaps.{FoldPlan, Fits, Replace, fold_image, missing, plan_of}
+use Rattle.std.proofs.Common.{◌≡◌, List, [], ◌∷◌, None, refl}
+use Rattle.overlay_set.specs.Sets.{State, images_of}
+use Rattle.overlay_set.specs.Swaps.{FoldPlan, Fits, Replace, fold_image, missing}
 use Rattle.overlay_set.specs.SetLaws.{IsReached}
 use Rattle.overlay_set.specs.Machines.{with_fold}
-use Rattle.live_model.specs.declared.levels.Level.{Level}
 use Rattle.live_model.specs.declared.objects.Line.{Line}
 use Rattle.live_model.specs.declared.rules.Rule.{Rule}
-use Rattle.published_set.specs.Sets.{IsFoundAt}
-use Rattle.published_set.specs.Sites.{IsFolded, IsMoved, Site, first_plan}
+use Rattle.published_set.specs.Sites.{IsFolded, IsMoved, Site}
 
 -- a state is reached from itself
 pub reached_here : (rules : List Rule) (base : List Line) (s : State) → IsReached rules base s s
@@ -37,8 +32,3 @@ folded_moves before after plan fits all rules base folded = (
   },
   record { found = before.state; reached = reached_here before.rules before.base before.state; all = all; folded = folded },
 )
-
--- the plan of the files that were found is the first plan
-pub found_first : (s : State) (from to : ℕ) (level : Level) (plan : FoldPlan) → IsFoundAt (foldable s) s.files from to level → plan ≡ record { files = slice_range s.files from to; level = level } → Some plan ≡ first_plan s
-found_first s from to level plan found is =
-    sym (ap (option_map (λ p. plan_of p s.files)) found.is ∙ ap Some (ap₂ (λ (files : List MapFile) (level : Level). record { files = files; level = level }) found.whole found.level_is ∙ sym is))
