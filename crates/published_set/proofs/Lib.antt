@@ -5,3 +5,4 @@ pub mod Adding
 pub mod Replacing
 pub mod Absorbing
 pub mod Moving
+pub mod Growing

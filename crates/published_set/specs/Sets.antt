@@ -45,11 +45,15 @@ pub record PublishedSet : Type 0 where
 abbrev pub rules_of : PublishedSet → List Rule
 rules_of s = common_rules (images_of s.state.files)
 
--- it stands over its base lines with these rules, and all lines are good
-pub record IsStanding (s : PublishedSet) : Type 0 where
-  pub stands : Stands (rules_of s) s.base s.state
-  pub good_base : AllByRecursion IsGoodLine s.base
-  pub good_history : AreGood s.state.history
+-- the state stands over these base lines with these rules, and all lines are good
+pub record IsStandingOver (rules : List Rule) (base : List Line) (state : State) : Type 0 where
+  pub stands : Stands rules base state
+  pub good_base : AllByRecursion IsGoodLine base
+  pub good_history : AreGood state.history
+
+-- the set stands over its base lines with its rules
+abbrev pub IsStanding : PublishedSet → Type 0
+IsStanding s = IsStandingOver (rules_of s) s.base s.state
 
 -- the period was found, and its files are just those from one index up to another, that one not among them
 pub record IsFoundAt (found : Option Period) (files : List MapFile) (from to : ℕ) (level : Level) : Type 0 where

@@ -1,12 +1,14 @@
 -- What is known of a place where folds are planned and committed.
-use Rattle.std.specs.Prelude.{◌≡◌, ◌≢◌, ℕ, List, ◌+◌, ◌-◌, ◌^◌, min, Option, Some, None, Result, Ok, Err}
+use Rattle.std.specs.Prelude.{◌≡◌, ◌≢◌, ◌<◌, ℕ, List, ◌+◌, ◌-◌, ◌^◌, min, Option, Some, None, Result, Ok, Err}
+use Rattle.std.specs.Option.{option_map}
 use Rattle.live_model.specs.declared.objects.Line.{Line}
 use Rattle.live_model.specs.declared.rules.Rule.{Rule}
-use Rattle.overlay_set.specs.Sets.{State}
+use Rattle.overlay_set.specs.Sets.{State, age}
 use Rattle.overlay_set.specs.SetLaws.{IsReached}
 use Rattle.overlay_set.specs.Periods.{foldable}
-use Rattle.overlay_set.specs.Swaps.{FoldPlan, Fits, IsLater, missing}
+use Rattle.overlay_set.specs.Swaps.{FoldPlan, Fits, IsLater, missing, plan_of}
 use Rattle.overlay_set.specs.Machines.{with_fold}
+use Rattle.published_set.specs.Sets.{IsStandingOver}
 use Rattle.published_set.specs.declared.errors.CommitError.{CommitError}
 use Rattle.published_set.specs.declared.errors.CommitError.TheVariants.{NoMemory, Overtaken}
 
@@ -19,6 +21,10 @@ pub record Site : Type 0 where
   pub plans : ℕ
   pub folds : ℕ
   pub overtaken : ℕ
+
+-- that state stands over its base lines with its rules, and all lines are good
+abbrev pub SiteStands : Site → Type 0
+SiteStands site = IsStandingOver site.rules site.base site.state
 
 -- it keeps its rules and base lines, and the state that it sees is reached from the one seen before
 pub record IsMoved (before after : Site) : Type 0 where
@@ -55,6 +61,10 @@ pub record IsFolded (plan : FoldPlan) (before after : Site) : Type 0 where
   pub all : missing plan found ≡ None
   pub folded : after.state ≡ with_fold plan found
 
+-- so a commit that is Ok brings a fold in: a number above all that the site had seen is there then
+abbrev pub FoldedLaw : Type 0
+FoldedLaw = (plan : FoldPlan) (before after : Site) → Fits plan before.state → IsFolded plan before after → SiteStands after → age before.state < age after.state
+
 -- why a commit was answered so
 abbrev pub IsAnswered : {T : Type 0} → FoldPlan → Site → Site → Result T CommitError → Type 0
 IsAnswered plan before after (Ok done) = IsFolded plan before after
@@ -66,3 +76,16 @@ abbrev pub CommitCounted : {T : Type 0} → Site → Site → Result T CommitErr
 CommitCounted before after (Ok done) = AreCounts after before.plans (raised before.folds) before.overtaken
 CommitCounted before after (Err NoMemory) = AreCounts after before.plans before.folds before.overtaken
 CommitCounted before after (Err (Overtaken file)) = AreCounts after before.plans before.folds (raised before.overtaken)
+
+-- Of a site without other users:
+
+-- the plan of the first period that is foldable, if there is one
+abbrev pub first_plan : State → Option FoldPlan
+first_plan s = option_map (λ p. plan_of p s.files) (foldable s)
+
+-- the fold came in the place of its files, all of which were there; or the state stays, and the first file that is not there is
+-- reported; memory is not refused
+abbrev pub IsCommitted : {T : Type 0} → FoldPlan → Site → Site → Result T CommitError → Type 0
+IsCommitted plan before after (Ok done) = (missing plan before.state ≡ None) × (after.state ≡ with_fold plan before.state)
+IsCommitted plan before after (Err NoMemory) = ⊥
+IsCommitted plan before after (Err (Overtaken file)) = (missing plan before.state ≡ Some file) × (after.state ≡ before.state)

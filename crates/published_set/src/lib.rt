@@ -11,8 +11,9 @@
 //!
 //! The layer above may rely on this: an image stands for what its file holds; a set that stands and gets a publication with the
 //! file of its overlay, or a fold in the place of the files of its plan, is just that set after the swap, and takes no memory for
-//! it; an operation is taken in at any time, and changes nothing where it may not come; what is to be folded or shrunk is told
-//! exactly, by heads alone; and a plan of it fits.
+//! it; an operation is taken in at any time, and changes nothing where it may not come; what is to be folded or shrunk is found
+//! exactly, from heads alone; a plan of it fits; and a place where folds are planned and committed sees states that stand, each reached
+//! from the one before.
 #![tactic(auto)]
 
 mod copies;

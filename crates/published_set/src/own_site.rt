@@ -1,9 +1,9 @@
 //! A set that one owner has for itself, as a place where folds are planned and committed.
 
-ghost use Rattle.std.specs.Prelude.{◌≡◌, IfOk};
+ghost use Rattle.std.specs.Prelude.{◌≡◌, IfOk, OnErr};
 ghost use Rattle.overlay_set.specs.Swaps.{Fits};
 ghost use Rattle.published_set.specs.Sets.{IsStanding, rules_of};
-ghost use Rattle.published_set.specs.Sites.{CommitCounted, IsAnswered, IsMoved, IsPlanned, PlanCounted, Site};
+ghost use Rattle.published_set.specs.Sites.{CommitCounted, IsAnswered, IsCommitted, IsMoved, IsPlanned, PlanCounted, Site, SiteStands, first_plan};
 
 use crate::errors::{CommitError, Missing};
 use crate::plan::{FoldPlan, FoldWork};
@@ -13,7 +13,7 @@ use live_model::Mem;
 use std::alloc::Global;
 use std::marker::Model;
 
-/// A set that stands and that nobody else changes, with the counts of a site.
+/// A set that stands, with the counts of a site. A plan leaves the set as it is, and so does a commit that is not Ok.
 #[derive(Drop)]
 pub struct OwnSite {
     set: OverlaySet,
@@ -56,8 +56,10 @@ impl OwnSite {
         self.set
     }
 
+    /// The plan of the first period that is foldable, if there is one.
     fn planned(&self, alloc: Global) -> Mem<Option<FoldPlan>>
-        ensures { IfOk result (IsPlanned self.now.state) }
+        ensures fits { IfOk result (IsPlanned self.now.state) }
+        ensures first { IfOk result (λ plan. plan ≡ first_plan self.now.state) }
     {
         match self.set.foldable() {
             None => Ok(None),
@@ -72,13 +74,32 @@ impl OwnSite {
 impl FoldSite for OwnSite {
     ghost site = { λ s. s };
 
-    fn plan(&mut self, alloc: Global) -> Mem<Option<FoldPlan>> {
+    /// The plan of the first day or month that is to be folded, or `None` exactly where there is none. The set stays as it is.
+    /// `NoMemory` where memory was refused; the counts stay too.
+    fn plan(&mut self, alloc: Global) -> Mem<Option<FoldPlan>>
+        ensures moved { IsMoved self.old self.new }
+        ensures standing { SiteStands self.new }
+        ensures planned { IfOk result (IsPlanned self.new.state) }
+        ensures counted { PlanCounted self.old self.new result }
+        ensures first { IfOk result (λ plan. plan ≡ first_plan self.old.state) }
+        ensures state { self.new.state ≡ self.old.state }
+        ensures stays { OnErr result (self.new ≡ self.old) }
+    {
         let plan = self.planned(alloc)?;
         self.plans = self.plans.saturating_add(1);
         Ok(plan)
     }
 
-    fn commit(&mut self, _alloc: Global, work: FoldWork) -> Result<(), CommitError> {
+    /// Puts a fold in the place of the files of its plan, which has to fit the set. `Overtaken` exactly where a file of the plan is not
+    /// in the set, with the first such number; the set stays as it was. It takes no memory, and `NoMemory` never comes.
+    fn commit(&mut self, _alloc: Global, work: FoldWork) -> Result<(), CommitError>
+        requires fits { Fits work self.old.state }
+        ensures moved { IsMoved self.old self.new }
+        ensures standing { SiteStands self.new }
+        ensures answered { IsAnswered work self.old self.new result }
+        ensures counted { CommitCounted self.old self.new result }
+        ensures committed { IsCommitted work self.old self.new result }
+    {
         match self.set.replace(work) {
             Ok(()) => {
                 self.folds = self.folds.saturating_add(1);

@@ -1,4 +1,4 @@
-//! Days and months of a set, told by the heads of its files and the last hour.
+//! Days and months of a set, found from the heads of its files and the last hour.
 
 ghost use Rattle.std.specs.Prelude.{◌≡◌, ◌≤◌, length, map, MatchOption, Some};
 ghost use Rattle.std.specs.Arc.{arc_value};

@@ -76,7 +76,8 @@ impl FoldPlan {
     }
 }
 
-/// A plan with the fold of its images, ready to be put in the place of its files. It is seen as the plan, which tells the fold.
+/// A plan with the fold of its images, ready to be put in the place of its files. It is seen as the plan, which says what
+/// the fold is.
 #[derive(Drop)]
 pub struct FoldWork {
     plan: FoldPlan,

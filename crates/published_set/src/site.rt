@@ -2,7 +2,7 @@
 
 ghost use Rattle.std.specs.Prelude.{IfOk};
 ghost use Rattle.overlay_set.specs.Swaps.{Fits};
-ghost use Rattle.published_set.specs.Sites.{CommitCounted, IsAnswered, IsMoved, IsPlanned, MovedLaw, PlanCounted, Site};
+ghost use Rattle.published_set.specs.Sites.{CommitCounted, FoldedLaw, IsAnswered, IsMoved, IsPlanned, MovedLaw, PlanCounted, Site, SiteStands};
 
 use crate::errors::CommitError;
 use crate::plan::{FoldPlan, FoldWork};
@@ -11,10 +11,11 @@ use std::alloc::Global;
 
 /// A place where folds are planned and committed, such as a set that others change too.
 ///
-/// `site` is what is known of it: the rules and the base lines of its sets, the state that it saw last, and three counts, which
-/// never fall: of the calls of `plan` that were answered, of the commits that were taken, and of those that were overtaken. Each
-/// call keeps rules and base lines, and leaves the state as it was or puts one in its place that is reached from it by
-/// publications and folds that may come, each after the one before.
+/// `site` is what is known of it: the rules and the base lines of its sets, the state that it saw last, and three counts: of the
+/// calls of `plan` that were Ok, of the commits that were Ok, and of those that were overtaken. Each such call raises its own count
+/// by one, up to 2^64 - 1, and no call changes another. Each call keeps rules and base lines, and leaves the state as it was or puts
+/// one in its place that is reached from it by publications and folds that may come, each after the one before. After each call the
+/// state stands over the base lines with the rules, and all lines are good.
 pub trait FoldSite {
     ghost site: { Self → Site };
 
@@ -22,6 +23,7 @@ pub trait FoldSite {
     /// `NoMemory` where memory was refused.
     fn plan(&mut self, alloc: Global) -> Mem<Option<FoldPlan>>
         ensures moved { IsMoved (site self.old) (site self.new) }
+        ensures standing { SiteStands (site self.new) }
         ensures planned { IfOk result (IsPlanned (site self.new).state) }
         ensures counted { PlanCounted (site self.old) (site self.new) result };
 
@@ -32,11 +34,14 @@ pub trait FoldSite {
     fn commit(&mut self, alloc: Global, work: FoldWork) -> Result<(), CommitError>
         requires fits { Fits work (site self.old).state }
         ensures moved { IsMoved (site self.old) (site self.new) }
+        ensures standing { SiteStands (site self.new) }
         ensures answered { IsAnswered work (site self.old) (site self.new) result }
         ensures counted { CommitCounted (site self.old) (site self.new) result };
 }
 
-/// That the state which a site sees after a call is the one seen before or a later one. There is nothing to run.
+/// That the state which a site sees after a call is the one seen before or a later one, and that a commit which is Ok brings a fold
+/// in: its greatest number is above all that the site had seen. There is nothing to run.
 pub fn sites_go_on()
-    ensures { MovedLaw }
+    ensures moved { MovedLaw }
+    ensures folded { FoldedLaw }
 {}

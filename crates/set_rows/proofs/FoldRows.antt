@@ -3,9 +3,9 @@ use Rattle.std.proofs.Common.{◌≡◌, ℕ, List, [], ◌∷◌, ◌++◌, ref
 use Rattle.live_model.specs.declared.levels.Level.TheVariants.{Day, Hour, Month}
 use Rattle.stamp_core.specs.Hours.{CivilHour, civil_hour}
 use Rattle.std.specs.List.{AllByRecursion}
-use Rattle.overlay_set.specs.Sets.{Entry, State, numbers_of, run_image}
+use Rattle.overlay_set.specs.Sets.{Entry, State, images_of, numbers_of, run_image}
 use Rattle.overlay_set.specs.Periods.{Period, foldable}
-use Rattle.overlay_set.specs.Swaps.{Add, FoldPlan, Fits, missing, plan_of}
+use Rattle.overlay_set.specs.Swaps.{Add, FoldPlan, Fits, Replace, Swap, fold_image, missing, plan_of}
 use Rattle.overlay_set.specs.MachineLaws.{IsGoodEvent, MachineStands}
 use Rattle.overlay_set.proofs.Fitting.{fits_later}
 use Rattle.overlay_set.proofs.Later.{later_step}
@@ -13,6 +13,7 @@ use Rattle.overlay_set.proofs.Laws.{events}
 use Rattle.overlay_set.proofs.Planning.{plan_law}
 use Rattle.overlay_set.proofs.Stepping.{opened_law}
 use Rattle.overlay_set.specs.Machines.{Commit, Event, Plan, Publish, limits_of_a_board, machine_after, opened, with_fold}
+use Rattle.published_set.specs.Ops.{absorbed}
 
 abbrev at : ℕ → ℕ → ℕ → CivilHour
 at month day hour = civil_hour 2024 month day hour
@@ -56,12 +57,22 @@ plan = plan_of first_day (after two_days).files
 plan_numbers : numbers_of plan.files ≡ 1 ∷ 2 ∷ []
 plan_numbers = refl
 
--- the second finds the file of the first hour gone, and as an operation it changes nothing
+-- the second finds the file of the first hour gone
 second_is_missing : missing plan (after (two_days ++ fold)) ≡ Some 1
 second_is_missing = refl
 
 second_changes_nothing : with_fold plan (after (two_days ++ fold)) ≡ after (two_days ++ fold)
 second_changes_nothing = refl
+
+-- and taken in as an operation it changes nothing, where the first, taken in so, is just its swap
+abbrev operation : Swap
+operation = Replace plan (fold_image plan.level (images_of plan.files))
+
+second_is_absorbed : absorbed (after (two_days ++ fold)) operation ≡ after (two_days ++ fold)
+second_is_absorbed = refl
+
+first_is_absorbed : absorbed (after two_days) operation ≡ after (two_days ++ fold)
+first_is_absorbed = refl
 
 -- a plan that was made before an hour came in has all its files, and is carried out
 first_is_there : missing plan (after (two_days ++ (hour (at 1 2 1) ∷ []))) ≡ None

@@ -11,6 +11,7 @@ use Rattle.live_model.specs.Levels.{level_number}
 use Rattle.stamp_core.specs.Hours.{CivilHour, civil_hour, number_of}
 use Rattle.overlay_set.specs.Sets.{Entry, MapFile, State, base_image, last_in, run_image, stamps_of}
 use Rattle.overlay_set.specs.Periods.{Period, files_in, is_closed, is_file_of, is_hour_of, is_within, period_of, periods, settled_level, settled_runs, shrinkable, stretch}
+use Rattle.published_set.specs.Ops.{has_room}
 use Rattle.overlay_set.specs.Machines.{Event, FilesFull, HistoryFull, Limits, Machine, Publish, Reply, is_full, late_after, limits_of_a_board, machine_after, opened, published_in, refused, step}
 
 abbrev entry : Entry
@@ -144,7 +145,18 @@ in_months month number from (suc n) before =
 nothing_shrinks : (n : ℕ) → shrinkable (set_of n) ≡ None
 nothing_shrinks n = none_shrinks (map empty_at (months 0 n)) (set_of n).files (λ p some. one_at_most p 0 (hours_from 1 (map empty_at (months 0 n))) some (in_months 0 1 0 n (omega arith)))
 
--- with 1,024 files it takes no more
+-- with 1,024 files it has no room for one more, and with 1,023 it had
+no_room : has_room (set_of 1023) ≡ false
+no_room = refl
+
+room_before : has_room (set_of 1022) ≡ true
+room_before = refl
+
+-- nor has a full history
+no_room_after_all : has_room (record { history = replicate 65536 entry; files = [] }) ≡ false
+no_room_after_all = refl
+
+-- so it takes no more
 files_full : refused limits_of_a_board [] [] (set_of 1023) (civil_hour 2085 4 1 0) ≡ Some (FilesFull 1023)
 files_full = full_refused limits_of_a_board [] [] (set_of 1023) (civil_hour 2085 4 1 0) refl refl refl (nothing_shrinks 1023)
 

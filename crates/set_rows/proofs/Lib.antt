@@ -3,3 +3,4 @@ mod MachineRows
 mod FullRows
 mod LooseRows
 mod FoldRows
+mod TakeRows
