@@ -1,5 +1,5 @@
 -- The files of a plan that fits can become one.
-use Rattle.std.proofs.Common.{◌≡◌, ◌≢◌, ◌+◌, ◌/◌, ◌<◌, ◌≤◌, ℕ, Bool, true, false, ◌&&◌, not, ◌==◌, nat_lt, List, [], ◌∷◌, ◌++◌, flat_map, map, Option, Some, None, nat_cmp, Less, refl, sym, ap, ap₂, subst, ◌∙◌, arith}
+use Rattle.std.proofs.Common.{◌≡◌, ◌+◌, ◌/◌, ◌<◌, ◌≤◌, ℕ, Bool, true, false, ◌&&◌, not, ◌==◌, List, [], ◌∷◌, ◌++◌, flat_map, map, Option, Some, None, nat_cmp, Less, refl, sym, ap, ap₂, subst, ◌∙◌, arith}
 use Rattle.std.specs.Prelude.{bytes_eq, if◌then◌else◌}
 use Rattle.std.specs.List.{AllByRecursion, AllZip}
 use Rattle.std.proofs.lemmas.Bool.Decides.{nat_tests}
@@ -15,7 +15,7 @@ use Rattle.file_order.specs.Folding.{not_fold, parts_asked, share_period}
 use Rattle.file_order.specs.Runs.{Placed, first_failing, has_rules_of, is_after, is_base}
 use Rattle.file_order.specs.declared.kinds.NotRun.{NotRun}
 use Rattle.overlay_set.specs.Sets.{Entry, MapFile, State}
-use Rattle.overlay_set.specs.Periods.{Period, entries_in, is_within, stretch}
+use Rattle.overlay_set.specs.Periods.{Period, is_within, stretch}
 use Rattle.overlay_set.specs.Standing.{AreRising}
 use Rattle.overlay_set.specs.Swaps.{FoldPlan, Fits, IsHeadOf, IsPlanned}
 use Rattle.overlay_set.proofs.Closing.{less-lt}

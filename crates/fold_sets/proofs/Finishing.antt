@@ -1,5 +1,5 @@
 -- The images of a plan can become one, and their fold finishes it.
-use Rattle.std.proofs.Common.{◌≡◌, ◌≢◌, List, [], ◌∷◌, Option, None, map, refl, sym, ap, ap₂, ◌∙◌}
+use Rattle.std.proofs.Common.{◌≡◌, ◌≢◌, List, [], ◌∷◌, Option, None, map, refl, ap, ap₂, ◌∙◌}
 use Rattle.live_model.specs.declared.rules.Rule.{Rule}
 use Rattle.live_model.specs.Maps.{Overlay, folded}
 use Rattle.stamp_core.specs.Hours.{CivilHour}

@@ -1,5 +1,5 @@
 -- A fold that comes in brings a number above all that were there.
-use Rattle.std.proofs.Common.{◌≡◌, ◌+◌, ◌<◌, ◌≤◌, ◌⊎◌, ℕ, Bool, true, false, cond, None, List, [], ◌∷◌, ◌++◌, drop, length, inl, inr, refl, sym, ap, ap₂, subst, ◌∙◌, arith}
+use Rattle.std.proofs.Common.{◌≡◌, ◌+◌, ◌<◌, ◌≤◌, ◌⊎◌, ℕ, Bool, true, false, cond, None, List, [], ◌∷◌, ◌++◌, drop, length, inl, inr, refl, ap, ap₂, subst, ◌∙◌, arith}
 use Rattle.live_model.specs.declared.objects.Line.{Line}
 use Rattle.live_model.specs.declared.rules.Rule.{Rule}
 use Rattle.overlay_set.specs.Sets.{MapFile, State, age, base_image, greatest, images_of, numbers_of}

@@ -1,7 +1,6 @@
 -- Sets at their real limits.
-use Rattle.std.proofs.Common.{◌≡◌, ℕ, suc, zero, ◌+◌, ◌/◌, ◌%◌, ◌<◌, ◌≤◌, Bool, true, false, cond, ◌&&◌, ◌==◌, nat_le, nat_lt, is_none, not, List, [], ◌∷◌, ◌++◌, Option, Some, None, find, filter, flat_map, length, map, replicate, refl, sym, ap, ap₂, subst, ◌∙◌, if◌then◌else◌, arith}
+use Rattle.std.proofs.Common.{◌≡◌, ℕ, suc, zero, ◌+◌, ◌/◌, ◌%◌, ◌<◌, ◌≤◌, Bool, true, false, cond, ◌&&◌, ◌==◌, nat_le, is_none, List, [], ◌∷◌, ◌++◌, Option, Some, None, find, flat_map, length, map, replicate, refl, ap, ap₂, ◌∙◌, if◌then◌else◌, arith}
 use Rattle.std.proofs.lemmas.Bool.Decides.{nat_tests}
-use Rattle.std.specs.List.{AllByRecursion}
 use Rattle.std.specs.Option.{option_or}
 use Rattle.live_model.specs.declared.levels.Level.{Level}
 use Rattle.live_model.specs.declared.levels.Level.TheVariants.{Base, Hour, Day, Month}
@@ -10,7 +9,7 @@ use Rattle.live_model.specs.declared.rules.Rule.{Rule}
 use Rattle.live_model.specs.Levels.{level_number}
 use Rattle.stamp_core.specs.Hours.{CivilHour, civil_hour, number_of}
 use Rattle.overlay_set.specs.Sets.{Entry, MapFile, State, base_image, last_in, run_image, stamps_of}
-use Rattle.overlay_set.specs.Periods.{Period, files_in, is_closed, is_file_of, is_hour_of, is_within, period_of, periods, settled_level, settled_runs, shrinkable, stretch}
+use Rattle.overlay_set.specs.Periods.{Period, files_in, is_closed, is_hour_of, is_within, period_of, settled_level, settled_runs, shrinkable, stretch}
 use Rattle.published_set.specs.Ops.{has_room}
 use Rattle.overlay_set.specs.Machines.{Event, FilesFull, HistoryFull, Limits, Machine, Publish, Reply, is_full, late_after, limits_of_a_board, machine_after, opened, published_in, refused, step}
 

@@ -1,5 +1,5 @@
 -- What may come into a set of two days: no hour that is not after all that are there.
-use Rattle.std.proofs.Common.{◌≡◌, ◌<◌, ℕ, List, [], ◌∷◌, Option, Some, None, map, refl, ap, arith}
+use Rattle.std.proofs.Common.{◌≡◌, ◌<◌, ℕ, [], ◌∷◌, Option, Some, None, map, refl, ap, arith}
 use Rattle.live_model.specs.declared.levels.Level.TheVariants.{Hour}
 use Rattle.stamp_core.specs.Hours.{CivilHour, civil_hour, number_of}
 use Rattle.overlay_set.specs.Sets.{Entry, Image, State, base_image, run_image}

@@ -1,4 +1,4 @@
-use Rattle.std.proofs.Common.{map, ap, sym, ◌∙◌}
+use Rattle.std.proofs.Common.{map, ap}
 use Rattle.std.specs.Arc.{arc_value}
 use Rattle.fold_sets.proofs.folding.fold_images.Goals as goal
 
