@@ -16,7 +16,7 @@ use Rattle.run_model.specs.Inputs.{in_turn, map_files, misfit_of}
 use Rattle.run_model.specs.Jobs.{prints, rows_over, task_of}
 use Rattle.run_model.specs.MapFiles.{blocks_due, map_files_in, parts_in, placed_in}
 use Rattle.run_model.specs.Requests.{ask_files}
-use Rattle.run_model.specs.Runs.{AsksWithin, Change, FindsMisfit, StepsFor, WorksTo, change}
+use Rattle.run_model.specs.Runs.{StepsFor, WorksTo, change}
 use Rattle.run_model.proofs.Readings.{all_short}
 use Rattle.obf_run.specs.Finishing.{EndsEarly}
 use Rattle.obf_run.specs.Images.{AreHeld, AreRead}

@@ -1,8 +1,7 @@
 -- Files that are read one after another, and changes that are made of them.
-use Rattle.std.proofs.Common.{◌≡◌, ◌≢◌, ◌≤◌, ◌++◌, ◌∙◌, ℕ, List, [], ◌∷◌, map, ap, append_assoc, arith, inl, inr, refl, subst, sym}
+use Rattle.std.proofs.Common.{◌≡◌, ◌++◌, ◌∙◌, ℕ, List, [], ◌∷◌, map, ap, append_assoc, arith, inl, inr, refl, subst, sym}
 use Rattle.std.specs.Prelude.{Contains}
 use Rattle.std.specs.List.{AllByRecursion}
-use Rattle.std.proofs.lemmas.List.{append-nil}
 use Rattle.live_model.specs.declared.levels.Level.TheVariants.{Base, Hour}
 use Rattle.live_model.specs.declared.objects.Entity.{Entity}
 use Rattle.live_model.specs.declared.objects.Line.{Line}
@@ -16,8 +15,7 @@ use Rattle.live_model.specs.Records.{record_id}
 use Rattle.live_model.specs.Rules.{RuleText}
 use Rattle.live_model.specs.Stores.{IsStore, apply}
 use Rattle.map_laws.proofs.OverlayProof.{applied_store}
-use Rattle.change_diff.specs.Overlays.{IsChange, IsOverlayOf}
-use Rattle.ref_index.specs.Indexes.{Indexes}
+use Rattle.change_diff.specs.Overlays.{IsOverlayOf}
 use Rattle.stamp_core.specs.Heads.{IsGoodHead}
 use Rattle.stamp_core.specs.Hours.{CivilHour}
 use Rattle.outside.specs.Files.{FilesState, OnlyReads}

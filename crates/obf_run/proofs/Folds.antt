@@ -21,7 +21,7 @@ use Rattle.outside.specs.Files.{FilesState}
 use Rattle.run_model.specs.declared.request.Period.{Period}
 use Rattle.run_model.specs.Endings.{Ending, misfit, no_memory}
 use Rattle.run_model.specs.Inputs.{in_turn, map_files, misfit_of}
-use Rattle.run_model.specs.Jobs.{IsPacked, Outcome, Parts, fold_parts, task_of}
+use Rattle.run_model.specs.Jobs.{IsPacked, Parts, fold_parts, task_of}
 use Rattle.run_model.specs.MapFiles.{MapFile, first_hour, first_rules, last_hour, map_file_in, map_files_in}
 use Rattle.run_model.specs.Reads.{ReadInOrder}
 use Rattle.run_model.specs.Requests.{fold_files, level_of}
@@ -129,11 +129,15 @@ module _ (before after : FilesState) (period : Period) (output : List ℕ) (name
       → e ≡ misfit (misfit_of names told) → EndsEarly e (change before after) (task_of (fold_files period output names))
   fold_refused level error told e same is refused ends =
       let first : IsRefused (Not told) (level_of period) (map of xs) = subst (λ (l : Level). IsRefused (Not told) l (map of xs)) same (subst (λ (x : FoldError). IsRefused x level (map of xs)) is refused) in
-      inr (misfit_of names told, ends, record {
-        texts = made.texts;
-        reads = made.reads;
-        first = fails_alike (not_fold (level_of period)) names made.texts (map of xs) (Some told) made.held first;
-      })
+      inr (
+        misfit_of names told,
+        ends,
+        record {
+          texts = made.texts;
+          reads = made.reads;
+          first = fails_alike (not_fold (level_of period)) names made.texts (map of xs) (Some told) made.held first;
+        },
+      )
 
   -- out of memory after all files were read
   pub fold_short : (e : Ending) → e ≡ no_memory → EndsEarly e (change before after) (task_of (fold_files period output names))

@@ -1,20 +1,13 @@
 -- Whether the images of map files that were read follow one another is what the files tell.
-use Rattle.std.proofs.Common.{◌≡◌, ◌∙◌, ℕ, List, [], ◌∷◌, map, Option, Some, None, ap, inl, inr, refl, subst, sym}
+use Rattle.std.proofs.Common.{◌≡◌, ◌∙◌, ℕ, List, [], ◌∷◌, map, Option, ap, refl}
 use Rattle.std.specs.Option.{option_map}
 use Rattle.file_order.specs.declared.kinds.NotRun.{NotRun}
 use Rattle.file_order.specs.Runs.{Placed}
-use Rattle.live_model.specs.Maps.{Overlay}
 use Rattle.obf_reader.specs.Images.{Seen}
 use Rattle.obf_reader.specs.Overlays.{overlay_of}
-use Rattle.outside.specs.Files.{FilesState}
-use Rattle.run_model.specs.Endings.{Ending, misfit, no_memory}
-use Rattle.run_model.specs.Inputs.{Misfit, in_turn, map_files, misfit_of}
-use Rattle.run_model.specs.Jobs.{Task}
-use Rattle.run_model.specs.MapFiles.{MapFile, map_files_in, overlays_in, placed_in}
-use Rattle.run_model.specs.Runs.{FindsMisfit, change}
-use Rattle.run_model.proofs.Readings.{all_short}
-use Rattle.obf_run.specs.Finishing.{EndsEarly}
-use Rattle.obf_run.specs.Images.{AreHeld, AreRead}
+use Rattle.run_model.specs.Inputs.{misfit_of}
+use Rattle.run_model.specs.MapFiles.{map_files_in, overlays_in, placed_in}
+use Rattle.obf_run.specs.Images.{AreHeld}
 
 -- what the place of an image among others depends on
 abbrev pub placed_of : Seen → Placed

@@ -1,5 +1,5 @@
 -- Map files that were read, and what their images hold.
-use Rattle.std.proofs.Common.{◌≡◌, ◌++◌, ◌∙◌, ℕ, List, [], ◌∷◌, map, Option, Some, None, IfSome, ap, append_assoc, arith, inl, inr, refl, subst, sym, true, false}
+use Rattle.std.proofs.Common.{◌≡◌, ◌++◌, ◌∙◌, ℕ, List, [], ◌∷◌, map, Option, Some, None, IfSome, ap, arith, inl, refl, subst, sym, true, false}
 use Rattle.std.specs.Prelude.{◌==◌, if◌then◌else◌, Bool, unwrap_or}
 use Rattle.std.proofs.lemmas.Bool.{eqb-true}
 use Rattle.live_model.specs.declared.levels.Level.{Level}
@@ -13,7 +13,7 @@ use Rattle.file_grammar.specs.Sections.{object_of}
 use Rattle.hour_words.specs.HourWords.{hour_numbered}
 use Rattle.hour_words.proofs.NamedHours.{hour_back}
 use Rattle.obf_reader.specs.Images.{IsImage, Seen}
-use Rattle.obf_reader.specs.Overlays.{overlay_of, parts_of, records_in, records_of}
+use Rattle.obf_reader.specs.Overlays.{parts_of, records_in, records_of}
 use Rattle.obf_reader.proofs.Overlays.{parts_are, records_of_parts}
 use Rattle.outside.specs.Files.{FilesState, OnlyReads}
 use Rattle.run_model.specs.Endings.{Ending}

@@ -1,6 +1,5 @@
 -- Map files that are read one after another, and what is seen of them.
 use Rattle.std.specs.Prelude.{◌≡◌, ◌++◌, ℕ, List, [], ◌∷◌}
-use Rattle.live_model.specs.declared.rules.Rule.{Rule}
 use Rattle.outside.specs.Files.{FilesState}
 use Rattle.obf_reader.specs.Images.{Seen}
 use Rattle.obf_reader.specs.Overlays.{overlay_of, parts_of}

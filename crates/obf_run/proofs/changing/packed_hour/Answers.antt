@@ -1,9 +1,4 @@
-use Rattle.std.proofs.Common.{◌∙◌, ap, subst, sym}
-use Rattle.std.specs.Prelude.{Contains}
-use Rattle.std.specs.List.{AllByRecursion}
-use Rattle.live_model.specs.Records.{record_id}
-use Rattle.obf_run.specs.Finishing.{outcome_of}
-use Rattle.obf_run.proofs.Changes.{hour_packed, marked_records}
+use Rattle.obf_run.proofs.Changes.{marked_records}
 use Rattle.obf_run.proofs.changing.packed_hour.Goals as goal
 
 pub packed-requires-clause-marked : goal.packed-requires-clause-marked

@@ -1,4 +1,4 @@
-use Rattle.std.proofs.Common.{length, refl, subst}
+use Rattle.std.proofs.Common.{length, refl}
 use Rattle.std.proofs.lemmas.Bool.{le-ltb}
 use Rattle.run_model.specs.Endings.{ending}
 use Rattle.run_model.specs.Jobs.{task_of}
