@@ -9,6 +9,7 @@ ghost use Rattle.obf_reader.specs.Images.{Seen};
 ghost use Rattle.map_history.specs.Written.{AreOfHistory, Change};
 ghost use Rattle.fold_history.specs.Cuts.{CutAnswers, IsCut};
 
+use fold_merge::cuts_answer_alike;
 use map_history::written_files_answer_as_the_map_made_anew;
 use obf_reader::Image;
 use std::sync::Arc;
@@ -24,4 +25,5 @@ pub fn cuts_of_a_history_answer_as_the_map_made_anew(
     ensures answer { CutAnswers (map arc_value written.now) (map arc_value images.now) }
 {
     written_files_answer_as_the_map_made_anew(written);
+    cuts_answer_alike();
 }
