@@ -1,2 +1,3 @@
-pub mod Forests
 pub mod Cuts
+pub mod Files
+pub mod Forests

@@ -5,9 +5,12 @@
 //! same map.
 //!
 //! The layer above may rely on this: images of a base and of the roots of any trees of folds over its hours follow one another, and a
-//! question over them has the rows of the map made anew from the lines of the base and of all changes. There is nothing to run here.
+//! question over them has the rows of the map made anew from the lines of the base and of all changes; and a fold that was written as a file is
+//! read as that fold. There is nothing to run here.
 #![tactic(auto)]
 
 mod cuts;
+mod files;
 
 pub use cuts::cuts_of_a_history_answer_as_the_map_made_anew;
+pub use files::written_folds_are_read_as_folds;
