@@ -102,11 +102,16 @@ roots_follow first last (fold level under image next) folds follow =
     let own = begins first last (roots under) folds.0.some (roots_follow first last under folds.1.0 both.0) in
     let head : image.head ≡ fold_head level (roots under) = folds.0.fold.parts.head_is in
     let ends : last_hour last (leaves under) ≡ image.head.last =
-    any_last last None (leaves under) (some_leaves under folds.1.0 folds.0.some) ∙ (sym (ends_alike under folds.1.0 None) ∙ ap (λ (h : Head). h.last) (sym head)) in
-    (subst (λ (h : Head). not (level_number h.level == 0) ≡ true) (sym head) (period_not_base level folds.0.period),
-    (subst (λ (rules : List Rule). bytes_eq (rules_text rules) (rules_text first.rules) ≡ true) (sym folds.0.fold.parts.rules_are) own.0,
-    (subst (λ (h : Head). is_after last h.first ≡ true) (sym head) own.1,
-    roots_follow first image.head.last next folds.1.1 (subst (λ (o : Option CivilHour). Follow first o (leaves next)) ends both.1))))
+    any_last last None (leaves under) (some_leaves under folds.1.0 folds.0.some) ∙ (sym (ends_alike under folds.1.0 None) ∙ ap (λ (h : Head). h.last) (sym head)) in (
+      subst (λ (h : Head). not (level_number h.level == 0) ≡ true) (sym head) (period_not_base level folds.0.period),
+      (
+        subst (λ (rules : List Rule). bytes_eq (rules_text rules) (rules_text first.rules) ≡ true) (sym folds.0.fold.parts.rules_are) own.0,
+        (
+          subst (λ (h : Head). is_after last h.first ≡ true) (sym head) own.1,
+          roots_follow first image.head.last next folds.1.1 (subst (λ (o : Option CivilHour). Follow first o (leaves next)) ends both.1),
+        ),
+      ),
+    )
 
 -- images that are a cut of images that follow one another follow one another
 pub cut_follows : (written images : List Seen) → not_run (map placed_of written) ≡ None → IsCut written images → not_run (map placed_of images) ≡ None

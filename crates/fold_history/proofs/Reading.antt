@@ -1,5 +1,5 @@
 -- The packed file of a fold is read as this fold.
-use Rattle.std.proofs.Common.{List, [], ◌∷◌, Option, Some, None, refl}
+use Rattle.std.proofs.Common.{List, [], ◌∷◌, Option, None, refl}
 use Rattle.std.specs.Prelude.{IfSome}
 use Rattle.std.specs.List.{AllByRecursion}
 use Rattle.live_model.specs.Maps.{folded}
@@ -38,6 +38,6 @@ read_as_fold images image all is file memory own = λ level some which none pack
       fold = record {
         follow = none;
         parts = image_of_parts image image.bytes (fold_head level images) (common_rules images) (folded (overlays_of images)).marks (folded (overlays_of images)).records refl packed is file memory own
-          (begins_civil images all, ends_civil None tt images all) can.overlay.ids;
+            (begins_civil images all, ends_civil None tt images all) can.overlay.ids;
       };
     }

@@ -16,7 +16,7 @@ use Rattle.obf_reader.specs.Overlays.{overlay_of, records_in}
 use Rattle.query_merge.specs.Questions.{answer_over}
 use Rattle.fold_merge.specs.Cuts.{CutsLaw, FoldLaw, OneLaw, StandFor}
 use Rattle.fold_merge.specs.Folds.{overlays_of}
-use Rattle.map_history.specs.Written.{AreOfHistory, HoldHistory, lines_of}
+use Rattle.map_history.specs.Written.{AreOfHistory, Change, HoldHistory, lines_of}
 use Rattle.fold_history.specs.Cuts.{CutAnswers}
 use Rattle.fold_history.specs.Forests.{AreFolds, Forest, fold, hour, leaves, nothing, roots}
 
@@ -64,8 +64,8 @@ module _ (one : OneLaw) (folds_stand : FoldLaw) where
   module _ (cuts : CutsLaw) where
     -- images of which the first holds a base, and the others are the roots over what holds the overlays of changes
     pub cut_answers : (written images : List Seen) → (
-        (rules : List Rule) (base : List Line) (changes : List Rattle.map_history.specs.Written.Change) → AreOfHistory rules base changes written → HoldHistory rules base changes written
-      ) → CutAnswers written images
+        (rules : List Rule) (base : List Line) (changes : List Change) → AreOfHistory rules base changes written → HoldHistory rules base changes written
+        ) → CutAnswers written images
     cut_answers written images holds = λ rules base changes query history cut.
         let forest : Forest = cut.forest in
         let held : HoldHistory rules base changes (cut.base ∷ leaves forest) = subst (HoldHistory rules base changes) cut.hours (holds rules base changes history) in

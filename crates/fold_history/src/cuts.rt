@@ -17,10 +17,7 @@ use std::sync::Arc;
 /// Of images that were written of a base and of changes, as `map_history` says it, and of any cut of them: the base, and the roots of trees of
 /// folds whose leaves are the hours, in order. That the images of the cut follow one another, as `ask` asks of images; and that a question over
 /// them has the rows of the map made anew from the lines of the base and of all changes. There is nothing to run.
-pub fn cuts_of_a_history_answer_as_the_map_made_anew(
-    written: &[Arc<Image>],
-    images: &[Arc<Image>],
-)
+pub fn cuts_of_a_history_answer_as_the_map_made_anew(written: &[Arc<Image>], images: &[Arc<Image>])
     ensures follow { (rules : List Rule) (base : List Line) (changes : List Change) → AreOfHistory rules base changes (map arc_value written.now) → IsCut (map arc_value written.now) (map arc_value images.now) → not_run (map (λ f. record { head = (arc_value {X = Seen} f).head; rules = (arc_value {X = Seen} f).rules }) images.now) ≡ None }
     ensures answer { CutAnswers (map arc_value written.now) (map arc_value images.now) }
 {

@@ -1,7 +1,6 @@
 -- Files that runs wrote are those of a history.
-use Rattle.std.proofs.Common.{◌≡◌, ℕ, List, [], ◌∷◌, ◌++◌, map, Option, Some, refl, sym, ap, subst, ◌∙◌}
+use Rattle.std.proofs.Common.{◌≡◌, ℕ, List, [], ◌∷◌, ◌++◌, Some, refl, sym, ap, subst, ◌∙◌}
 use Rattle.std.specs.List.{AllByRecursion}
-use Rattle.live_model.specs.declared.objects.Entity.{Entity}
 use Rattle.live_model.specs.declared.objects.Line.{Line}
 use Rattle.live_model.specs.declared.rules.Rule.{Rule}
 use Rattle.live_model.specs.Maps.{published}
@@ -100,9 +99,10 @@ module _ (rules : List Rule) (base : List Line) (table text : List ℕ) (rules_s
   changes_are texts earlier are [] (t ∷ ts) files spelled these = absurd spelled
   changes_are texts earlier are (c ∷ cs) [] files spelled these = absurd spelled
   changes_are texts earlier are (c ∷ cs) (t ∷ ts) [] spelled these = absurd these
-  changes_are texts earlier are (c ∷ cs) (t ∷ ts) (b ∷ bs) spelled these =
-      (change_is c.hour texts earlier t c.lines b are spelled.0 these.0,
-      changes_are (texts ++ t ∷ []) (earlier ++ c.lines ∷ []) (one_more texts earlier t c.lines are spelled.0) cs ts bs spelled.1 these.1)
+  changes_are texts earlier are (c ∷ cs) (t ∷ ts) (b ∷ bs) spelled these = (
+    change_is c.hour texts earlier t c.lines b are spelled.0 these.0,
+    changes_are (texts ++ t ∷ []) (earlier ++ c.lines ∷ []) (one_more texts earlier t c.lines are spelled.0) cs ts bs spelled.1 these.1,
+  )
 
   files_are : (changes : List Change) (texts files : List (List ℕ)) → AreTexts texts (lines_of changes) → AreFilesOf table text changes texts files → Written.AreFilesOf rules base changes files
   files_are changes texts [] spelled these = these

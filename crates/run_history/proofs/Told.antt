@@ -1,19 +1,18 @@
 -- What texts hold is what their images hold.
-use Rattle.std.proofs.Common.{◌≡◌, ℕ, List, [], ◌∷◌, map, None, Option, refl, sym, ap, ◌∙◌}
+use Rattle.std.proofs.Common.{◌≡◌, List, [], ◌∷◌, map, None, refl, ap, ◌∙◌}
 use Rattle.std.specs.List.{AllByRecursion}
 use Rattle.std.specs.Option.{option_map}
 use Rattle.live_model.specs.declared.objects.Line.{Line}
 use Rattle.live_model.specs.declared.queries.Query.{Query}
 use Rattle.live_model.specs.declared.rows.Row.{Row}
 use Rattle.live_model.specs.declared.rules.Rule.{Rule}
-use Rattle.live_model.specs.Maps.{answer, laid, rebuilt}
-use Rattle.file_order.specs.declared.kinds.NotRun.{NotRun}
+use Rattle.live_model.specs.Maps.{answer, laid}
 use Rattle.file_order.specs.Runs.{Placed, not_run}
 use Rattle.obf_reader.specs.Images.{Seen}
 use Rattle.query_merge.specs.Questions.{answer_over}
 use Rattle.query_text.specs.Lines.{answer_text}
 use Rattle.fold_merge.specs.Folds.{placed_of}
-use Rattle.map_history.specs.Written.{AreOfHistory, Change, lines_of}
+use Rattle.map_history.specs.Written.{AreOfHistory, Change}
 use Rattle.fold_history.specs.Cuts.{CutAnswers, IsCut}
 use Rattle.run_model.specs.Inputs.{misfit_of}
 use Rattle.run_model.specs.Jobs.{prints, rows_over}
@@ -21,7 +20,6 @@ use Rattle.run_model.specs.MapFiles.{map_files_in}
 use Rattle.obf_run.specs.Images.{AreHeld, IsHeld}
 use Rattle.obf_run.proofs.Follows.{overlays_same, placed_same}
 use Rattle.run_history.specs.Shown.{ShowsRebuilt, TellTheirTexts, texts_of}
-use Rattle.run_history.specs.Written.{AreWritten}
 use Rattle.run_history.proofs.History.{of_history}
 
 -- the bytes of an image hold what it holds
@@ -48,8 +46,7 @@ pub shown : (written images : List Seen) → TellTheirTexts images
     → CutAnswers written images → ShowsRebuilt written images
 shown written images tell follow answers = λ rules base changes runs cut query names.
     let history : AreOfHistory rules base changes written = of_history rules base changes written runs in
-    let t = tell query in
-    (
+    let t = tell query in (
       t.1 names ∙ ap (option_map (misfit_of names)) (follow rules base changes history cut),
-      λ outcome is. is ∙ ap (λ (rows : List Row). prints (answer_text rows)) (t.0 ∙ answers rules base changes query history cut)
+      λ outcome is. is ∙ ap (λ (rows : List Row). prints (answer_text rows)) (t.0 ∙ answers rules base changes query history cut),
     )
