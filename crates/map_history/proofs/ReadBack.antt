@@ -39,7 +39,7 @@ use Rattle.packed_image.proofs.HeldParts.{file_there}
 use Rattle.query_merge.specs.Questions.{answer_over}
 use Rattle.query_merge.proofs.Gathering.{history_answer_law}
 use Rattle.run_model.specs.Jobs.{Parts, base_parts, hour_parts}
-use Rattle.map_history.specs.Written.{AnswersAsRebuilt, AreFilesOfChanges, AreOfHistory, Change, IsFileOf, IsRead, lines_of}
+use Rattle.map_history.specs.Written.{AnswersAsRebuilt, AreFilesOfChanges, AreOfHistory, Change, HoldHistory, IsFileOf, IsRead, lines_of}
 
 -- ---- one image
 
@@ -102,15 +102,19 @@ module _ (rules : List Rule) (base : List Line) where
   base_store : AllByRecursion IsGoodLine base → IsStore (apply [] base)
   base_store good = applied_store [] base (record { good = tt; rising = tt }) good
 
+  -- the images of a history hold it
+  pub held : (changes : List Change) (images : List Seen) → AllByRecursion IsRead images → AreOfHistory rules base changes images → HoldHistory rules base changes images
+  held changes [] read h = h.files
+  held changes (first ∷ later) read h =
+      let b = read_back first (base_parts rules (apply [] base)) read.0 h.files.0 in
+      (b.rules, (b.records, overlays_read [] changes later read.1 (base_store h.history.base_good) h.history.good h.files.1))
+
   answers_for : (changes : List Change) (images : List Seen) (query : Query) → AllByRecursion IsRead images → AreOfHistory rules base changes images
       → answer_over query images ≡ answer rules query (rebuilt rules base (lines_of changes))
   answers_for changes [] query read h = absurd h.files
   answers_for changes (first ∷ later) query read h =
-      let parts : Parts = base_parts rules (apply [] base) in
-      let b = read_back first parts read.0 h.files.0 in
-      let records : records_in first.bytes ≡ rebuilt rules base [] = b.records in
-      let os = overlays_read [] changes later read.1 (base_store h.history.base_good) h.history.good h.files.1 in
-      (λ k. answer (b.rules k) query (laid (records k) (os k))) ∙ history_answer_law rules query base (lines_of changes) h.history.base_good h.history.good
+      let b = held changes (first ∷ later) read h in
+      (λ k. answer (b.0 k) query (laid (b.1.0 k) (b.1.1 k))) ∙ history_answer_law rules query base (lines_of changes) h.history.base_good h.history.good
 
 -- ---- images that follow one another
 

@@ -6,6 +6,7 @@ use Rattle.ordered_lists.specs.Ordered.{IsRisingBy}
 use Rattle.live_model.specs.declared.objects.Line.{Line}
 use Rattle.live_model.specs.declared.queries.Query.{Query}
 use Rattle.live_model.specs.declared.rules.Rule.{Rule}
+use Rattle.live_model.specs.MapLaws.{overlays}
 use Rattle.live_model.specs.Maps.{answer, published, rebuilt}
 use Rattle.live_model.specs.Objects.{IsGoodLine}
 use Rattle.live_model.specs.Stores.{apply}
@@ -13,6 +14,7 @@ use Rattle.stamp_core.specs.Hours.{CivilHour, number_of}
 use Rattle.file_grammar.specs.Files.{head_numbers, whole}
 use Rattle.file_grammar.specs.Readings.{IsInMemory}
 use Rattle.obf_reader.specs.Images.{IsImage, Seen}
+use Rattle.obf_reader.specs.Overlays.{overlay_of, records_in}
 use Rattle.obf_writer.specs.PackedFile.{IsPackedFile}
 use Rattle.query_merge.specs.Questions.{answer_over}
 use Rattle.run_model.specs.Jobs.{Parts, base_parts, hour_parts}
@@ -62,6 +64,12 @@ IsRead image = IsImage image × IsInMemory (whole image.bytes)
 pub record AreOfHistory (rules : List Rule) (base : List Line) (changes : List Change) (images : List Seen) : Type 0 where
   pub history : IsHistory base changes
   pub files : AreFilesOf rules base changes (map (λ i. i.bytes) images)
+
+-- the first has the rules and the records of the base, and the others hold the overlays of the changes
+abbrev pub HoldHistory : List Rule → List Line → List Change → List Seen → Type 0
+HoldHistory rules base changes [] = ⊥
+HoldHistory rules base changes (first ∷ later) =
+    (first.rules ≡ rules) × ((records_in first.bytes ≡ rebuilt rules base []) × (map overlay_of later ≡ overlays rules (apply [] base) (lines_of changes)))
 
 -- where they are, they answer as the map made anew
 abbrev pub AnswersAsRebuilt : List Seen → Type 0
