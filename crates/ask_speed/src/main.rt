@@ -1,8 +1,8 @@
 //! Asks a question many times over map files that are kept, for a script that measures it.
 //!
 //! The words are the question, how often it is asked, and the names of the files. Printed are how often it was asked, how many rows were
-//! found in all, and how many nanoseconds the answers took. It ends with 3 where a file is not good, the files do not follow one another, or the
-//! text is no question, and with 6 out of memory. With fewer than two words it asks nothing. Nothing is claimed of it but that it is safe and ends.
+//! found in all, and how many nanoseconds the answers took. It ends with 3 where a file is not good, the files do not follow one another, the
+//! text is no question, or memory is refused as they are read, and with 6 where it is refused later. With fewer than two words it asks nothing. Nothing is claimed of it but that it is safe and ends.
 #![tactic(auto)]
 
 mod asking;

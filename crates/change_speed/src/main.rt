@@ -2,8 +2,8 @@
 //!
 //! The words are the names of a table of rules, of the objects of a base and of a change, and how often the image is made. Printed are the marks
 //! and the records of the hour, and the nanoseconds of three things: of the overlay of the change over the base, of all images of it, and of
-//! reading the bytes of one of these images again as often. It ends with 3 where a file cannot be read or is not good, and with 6 where memory or
-//! the clock is refused. Without words it does nothing. Nothing is claimed of it but that it is safe and ends.
+//! reading the bytes of one of these images again as often. It ends with 3 where a file is not good or cannot be read, also for
+//! want of memory, and with 6 where memory or the clock is refused later. Without words it does nothing. Nothing is claimed of it but that it is safe and ends.
 #![tactic(auto)]
 
 mod hours;
