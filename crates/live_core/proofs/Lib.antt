@@ -1,0 +1,5 @@
+pub mod Playing
+pub mod Publishing
+pub mod Following
+pub mod Keeping
+pub mod Accepting
