@@ -1,0 +1,5 @@
+pub mod Going
+pub mod Ages
+pub mod Counts
+pub mod Played
+pub mod Whole
