@@ -1,0 +1,5 @@
+pub mod States
+pub mod Clock
+pub mod Growing
+pub mod Streets
+pub mod Doing

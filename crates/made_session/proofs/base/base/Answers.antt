@@ -1,0 +1,6 @@
+use Rattle.std.proofs.Common.{rules, arith, ◌≡◌, ◌+◌, ◌*◌, ap, ◌∙◌}
+use Rattle.made_session.proofs.States.{after_after}
+use Rattle.made_session.proofs.base.base.Goals as goal
+
+pub returns-clause-after : goal.returns-clause-after
+returns-clause-after c = search (rules, after_after)
