@@ -9,7 +9,7 @@ use Rattle.stamp_core.specs.Hours.{CivilHour}
 use Rattle.live_model.proofs.TextReadings.{one_reading as one_text}
 use Rattle.tag_rules.proofs.RuleLaw.{one_reading as one_table}
 use Rattle.run_model.specs.MapFiles.{map_files_in}
-use Rattle.run_model.specs.Requests.{nodes, dump, build, change_map, fold_files, ask_files, check, level_of}
+use Rattle.run_model.specs.Requests.{nodes, dump, build, change_map, fold_files, ask_files, check, replay_script, level_of}
 use Rattle.run_model.specs.Jobs.{AreTexts, IsBuilt, IsChanged, IsPacked, IsStoreOf, OneOutcomeLaw, Outcome, Parts, base_parts, fold_parts, hour_parts}
 
 one_store : (text : List ℕ) (a b : List Entity) → IsStoreOf text a → IsStoreOf text b → a ≡ b
@@ -65,6 +65,7 @@ pub one_outcome : OneOutcomeLaw
 one_outcome (nodes rect base) output texts one other is = absurd cc
 one_outcome (dump base) output texts one other is = absurd cc
 one_outcome (check file) output texts one other is = absurd cc
+one_outcome (replay_script rules base script) output texts one other is = absurd cc
 one_outcome (ask_files query files) output texts one other is = absurd cc
 one_outcome (fold_files period out files) output texts one other is = λ a b. one_packed (fold_parts (level_of period) (map_files_in texts)) one other a b
 one_outcome (build rules base out) output [] one other is = λ a b. absurd a

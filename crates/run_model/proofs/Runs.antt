@@ -4,7 +4,7 @@ use Rattle.outside.specs.Files.{FilesState}
 use Rattle.outside.specs.Sinks.{SinkState}
 use Rattle.run_model.specs.Endings.{Ending, bad_words, too_many_files, no_memory, NamesFile}
 use Rattle.run_model.specs.Jobs.{Task, task_of}
-use Rattle.run_model.specs.Requests.{Asked, BeginsQuestion, nodes, dump, build, change_map, fold_files, ask_files, check, asked_by}
+use Rattle.run_model.specs.Requests.{Asked, BeginsQuestion, nodes, dump, build, change_map, fold_files, ask_files, check, replay_script, asked_by}
 use Rattle.run_model.specs.Runs.{CausedBy, CausedByWords, CausedWithin, Change, Completes, EndsSo, IsDue, IsUntouched, PutsLine, Run, StepsFor, names_too_many, output_for}
 use Rattle.run_model.proofs.Causes.{short_caused}
 use Rattle.run_model.proofs.Completion.{task_ends}
@@ -44,6 +44,7 @@ no_steps (Some (build rules base output)) files steps none_taken = tt
 no_steps (Some (change_map rules base hour output changes)) files steps none_taken = tt
 no_steps (Some (fold_files period output names)) files steps none_taken = tt
 no_steps (Some (check file)) files steps none_taken = tt
+no_steps (Some (replay_script rules base script)) files steps none_taken = tt
 
 -- a run of words that ask for something
 pub asked_ends : (told e : Ending) (words : List (List ℕ)) (run : Run) (a : Asked) → asked_by words ≡ Some a → CausedBy e run.files run.out (task_of a)

@@ -22,7 +22,11 @@ use Rattle.file_grammar.specs.Files.{IsFile, head_numbers}
 use Rattle.obf_writer.specs.PackedFile.{IsPackedFile}
 use Rattle.file_lines.specs.FileLines.{file_line}
 use Rattle.query_text.specs.Lines.{answer_text}
-use Rattle.run_model.specs.Requests.{Asked, nodes, dump, build, change_map, fold_files, ask_files, check, level_of}
+use Rattle.line_texts.specs.Forms.{IsText}
+use Rattle.script_text.specs.declared.steps.Step.{Step}
+use Rattle.script_text.specs.Scripts.{script_form}
+use Rattle.session_text.specs.Plays.{played_text}
+use Rattle.run_model.specs.Requests.{Asked, nodes, dump, build, change_map, fold_files, ask_files, check, replay_script, level_of}
 use Rattle.run_model.specs.MapFiles.{MapFile, first_rules, fold_head, map_files_in, overlays_in}
 use Rattle.run_model.specs.Inputs.{Misfit, Plan, files_named, misfit_in, output_of, plan_of}
 
@@ -126,6 +130,19 @@ pub record IsChecked (bytes : List ℕ) (outcome : Outcome) : Type 0 where
   pub file : IsFile bytes version (head_numbers head) rules marks records
   pub same : outcome ≡ prints (file_line head (length marks) (length records))
 
+-- The steps that the script spells were played over the base with the changes that the texts spell, one for each publication in order, and
+-- what is printed of that is the answer.
+pub record IsPlayed (table text script : List ℕ) (texts : List (List ℕ)) (outcome : Outcome) : Type 0 where
+  pub rules : List Rule
+  pub spelled : RuleText table rules
+  pub base : List Line
+  pub lines : OplText text base
+  pub steps : List Step
+  pub read : IsText script_form script steps
+  pub changes : List (List Line)
+  pub spell : AreTexts texts changes
+  pub same : outcome ≡ prints (played_text rules base steps changes)
+
 -- the outcome of what is asked for, where the files that are read have these bytes, in their order
 abbrev pub Job : Asked → List (List ℕ) → Outcome → Type 0
 Job (nodes rect base) (text ∷ []) outcome = IsAnswered text (λ store. lines_text (nodes_in rect store)) outcome
@@ -135,6 +152,7 @@ Job (change_map rules base hour output changes) (table ∷ text ∷ texts) outco
 Job (fold_files period output files) texts outcome = IsPacked (fold_parts (level_of period) (map_files_in texts)) outcome
 Job (ask_files query files) texts outcome = outcome ≡ prints (answer_text (rows_over query (map_files_in texts)))
 Job (check file) (bytes ∷ []) outcome = IsChecked bytes outcome
+Job (replay_script rules base script) (table ∷ text ∷ bytes ∷ texts) outcome = IsPlayed table text bytes texts outcome
 Job asked texts outcome = ⊥
 
 -- What a run is to do, of whatever verb.

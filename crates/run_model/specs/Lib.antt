@@ -1,5 +1,6 @@
 pub mod Requests
 pub mod MapFiles
+pub mod PlayedScripts
 pub mod Inputs
 pub mod Jobs
 pub mod Endings

@@ -26,6 +26,7 @@ pub data Asked : Type 0 where
   fold_files : Period → (output : List ℕ) → (files : List (List ℕ)) → Asked
   ask_files : Query → (files : List (List ℕ)) → Asked
   check : (file : List ℕ) → Asked
+  replay_script : (rules base script : List ℕ) → Asked
 
 -- the verb of this name
 abbrev pub verb_of : List ℕ → Option Verb
@@ -37,6 +38,7 @@ verb_of word =
     else if bytes_eq word (codes "fold") then Some verb.Fold
     else if bytes_eq word (codes "ask") then Some verb.Ask
     else if bytes_eq word (codes "check") then Some verb.Check
+    else if bytes_eq word (codes "replay") then Some verb.Replay
     else None
 
 -- there is a change at least, and the stamp names an hour
@@ -59,7 +61,7 @@ asked_query query [] = None
 asked_query query (file ∷ files) = option_map (λ q. ask_files q (file ∷ files)) (query_of query)
 
 -- `nodes RECT BASE`, `dump BASE`, `build RULES BASE OUT`, `change RULES BASE STAMP OUT CHANGE ..`, `fold LEVEL OUT FILE ..`,
--- `ask QUERY FILE ..` and `check FILE`, by the words after the verb
+-- `ask QUERY FILE ..`, `check FILE` and `replay RULES BASE SCRIPT`, by the words after the verb
 abbrev pub asked_with : Verb → List (List ℕ) → Option Asked
 asked_with verb.Nodes (rect ∷ base ∷ []) = option_map (λ r. nodes r base) (rect_of rect)
 asked_with verb.Dump (base ∷ []) = Some (dump base)
@@ -68,6 +70,7 @@ asked_with verb.Change (rules ∷ base ∷ stamp ∷ output ∷ changes) = asked
 asked_with verb.Fold (level ∷ output ∷ files) = asked_fold level output files
 asked_with verb.Ask (query ∷ files) = asked_query query files
 asked_with verb.Check (file ∷ []) = Some (check file)
+asked_with verb.Replay (rules ∷ base ∷ script ∷ []) = Some (replay_script rules base script)
 asked_with verb words = None
 
 abbrev pub asked_by : List (List ℕ) → Option Asked
@@ -83,6 +86,7 @@ asked (request.Change rules base hour output earlier last) = change_map rules.no
 asked (request.Fold period output files) = fold_files period output.now files.now
 asked (request.Ask query files) = ask_files query files.now
 asked (request.Check file) = check file.now
+asked (request.Replay rules base script) = replay_script rules.now base.now script.now
 
 -- the first word is `ask`, whose question takes memory as it is read
 abbrev pub BeginsQuestion : List (List ℕ) → Type 0

@@ -21,6 +21,7 @@ pub enum Verb {
     Fold,
     Ask,
     Check,
+    Replay,
 }
 
 /// What a map file in place of others may cover.
@@ -85,11 +86,17 @@ pub enum Request<'a> {
     Check {
         file: &'a str,
     },
+    /// What a script does over the base under the rules when one thread plays it.
+    Replay {
+        rules: &'a str,
+        base: &'a str,
+        script: &'a str,
+    },
 }
 
 /// What the words ask for. `None` exactly where they are none of `nodes RECT BASE`, `dump BASE`, `build RULES BASE OUT`,
-/// `change RULES BASE STAMP OUT CHANGE ..`, `fold LEVEL OUT FILE ..`, `ask QUERY FILE ..` and `check FILE`. `NoMemory` only where the
-/// first word is `ask`: a question takes memory as it is read, also where it turns out to be none.
+/// `change RULES BASE STAMP OUT CHANGE ..`, `fold LEVEL OUT FILE ..`, `ask QUERY FILE ..`, `check FILE` and `replay RULES BASE SCRIPT`.
+/// `NoMemory` only where the first word is `ask`: a question takes memory as it is read, also where it turns out to be none.
 pub fn read_request(alloc: Global, words: &[Text]) -> Mem<Option<Request<'_>>>
     ensures read { IfOk result (λ found. MatchOption found (asked_by words.now ≡ None) (λ r. asked_by words.now ≡ Some (asked r))) }
     ensures named { IfOk result (λ found. IfSome found NamesFiles) }
@@ -116,6 +123,7 @@ fn read_verb(word: &str) -> Option<Verb>
         "fold" => Some(Verb::Fold),
         "ask" => Some(Verb::Ask),
         "check" => Some(Verb::Check),
+        "replay" => Some(Verb::Replay),
         _ => None,
     }
 }
@@ -150,6 +158,16 @@ fn read_words(alloc: Global, verb: Verb, words: &[Text]) -> Mem<Option<Request<'
         (Verb::Check, [file]) => {
             let file = file.as_str();
             Ok(Some(Request::Check { file }))
+        }
+        (Verb::Replay, [rules, base, script]) => {
+            let rules = rules.as_str();
+            let base = base.as_str();
+            let script = script.as_str();
+            Ok(Some(Request::Replay {
+                rules,
+                base,
+                script,
+            }))
         }
         _ => Ok(None),
     }

@@ -61,6 +61,8 @@ use Rattle.file_grammar.specs.PoiRules.{groups_facts}
 use Rattle.addr_section.specs.Packed.{packed_addresses}
 use Rattle.poi_section.specs.Packed.{packed_pois}
 use Rattle.obf_writer.specs.PackedFile.{packed_file, IsPackedFile}
+use Rattle.script_text.specs.Scripts.{lane_of, step_break, step_of, verb_of as script_verb_of}
+use Rattle.script_text.specs.declared.breaks.ScriptKind.TheVariants as step
 use Rattle.outside.specs.declared.named_file.NamedFile.{NamedFile}
 use Rattle.outside.specs.Faults.{Rose}
 use Rattle.outside.specs.Files.{Contents, FilesState, Lacks, OnlyReads, OthersStay, Replaces}
@@ -69,12 +71,12 @@ use Rattle.outside.specs.Readings.{Reading, reading, writing}
 use Rattle.outside.specs.Sinks.{SinkState}
 use Rattle.outside.specs.Whole.{IsWhole}
 use Rattle.run_model.specs.declared.breaks.Break.{Break}
-use Rattle.run_model.specs.declared.breaks.Break.TheVariants.{InRules, InObjects, InFile}
+use Rattle.run_model.specs.declared.breaks.Break.TheVariants.{InRules, InObjects, InFile, InScript}
 use Rattle.run_model.specs.declared.request.Period.TheVariants as period
 use Rattle.run_model.specs.MapFiles.{MapFile, map_file_in, parts_in, placed_in}
-use Rattle.run_model.specs.Requests.{Asked, BeginsQuestion, ask_files, asked_by, nodes, dump, build, check, fold_files}
+use Rattle.run_model.specs.Requests.{Asked, BeginsQuestion, ask_files, asked_by, nodes, dump, build, check, fold_files, replay_script}
 use Rattle.file_order.specs.declared.kinds.RunKind.TheVariants as kind
-use Rattle.run_model.specs.Inputs.{Input, Misfit, files_named, misfit_in, input, in_turn, plan_of, output_of, break_in, break_text, no_more, reads, rule_table, object_text, map_file}
+use Rattle.run_model.specs.Inputs.{Input, Misfit, Plan, files_named, misfit_in, input, in_turn, plan_of, script_and_changes, output_of, break_in, break_text, no_more, reads, rule_table, object_text, object_texts, map_file, script_text}
 use Rattle.file_lines.specs.FileLines.{file_line}
 use Rattle.run_model.specs.Jobs.{IsStoreOf, Job, Outcome, Parts, base_head, fold_parts, prints, task_of}
 use Rattle.run_model.specs.Endings.{Ending, done, bad_words, too_many_files, misfit, refused, read_fault, write_fault, answer_fault, no_memory, over_limit, code_of, ending_line}
@@ -83,7 +85,7 @@ use Rattle.run_model.specs.Runs.{Cause, Caused, Completes, Holds, IsTooLong, IsW
 
 -- all that the rows compute with
 opened : Unit {0}
-unfolding lines_from fields_from number_of id_of magnitude_of degrees_of magnitude_text degrees_text character_of unescaped text_of escaped rect_of object_of ref_of version_of gone_of is_count is_time coordinate_of tag_of pairs_of refs_of member_of members_of letter_of line_of tests_of break_of text_break id_text tag_text ref_text member_text row_text line_text shape_of admitted_of zoom_of poi_of named_class rule_fields rule_of rule_tests rule_break rules_break rule_row rule_line records digits is_utf8 chars encode message_from field_at varint_in file_facts section_facts keyed_facts groups_facts packed_file packed packed_addresses packed_pois varint X.groups query_of parts_in
+unfolding lines_from fields_from number_of id_of magnitude_of degrees_of magnitude_text degrees_text character_of unescaped text_of escaped rect_of object_of ref_of version_of gone_of is_count is_time coordinate_of tag_of pairs_of refs_of member_of members_of letter_of line_of tests_of break_of text_break id_text tag_text ref_text member_text row_text line_text shape_of admitted_of zoom_of poi_of named_class rule_fields rule_of rule_tests rule_break rules_break rule_row rule_line records digits is_utf8 chars encode message_from field_at varint_in file_facts section_facts keyed_facts groups_facts packed_file packed packed_addresses packed_pois varint X.groups query_of parts_in lane_of script_verb_of step_of step_break
 opened = tt
 
 -- Words.
@@ -118,6 +120,9 @@ words_fold = refl
 -- one file may become a month, under its own name
 words_fold_alone : asked_by (codes "fold" ∷ codes "month" ∷ codes "a" ∷ codes "a" ∷ []) ≡ Some (fold_files period.Month (codes "a") (codes "a" ∷ []))
 words_fold_alone = refl
+
+words_replay : asked_by (codes "replay" ∷ codes "town.rules" ∷ codes "town.opl" ∷ codes "s.txt" ∷ []) ≡ Some (replay_script (codes "town.rules") (codes "town.opl") (codes "s.txt"))
+words_replay = refl
 
 words_build : asked_by (codes "build" ∷ codes "a.rules" ∷ codes "a.opl" ∷ codes "a.obf" ∷ []) ≡ Some (build (codes "a.rules") (codes "a.opl") (codes "a.obf"))
 words_build = refl
@@ -180,6 +185,11 @@ build_miscounted : (asked_by (codes "build" ∷ codes "a" ∷ []) ≡ None) × (
     × (asked_by (codes "build" ∷ codes "a" ∷ codes "b" ∷ codes "c" ∷ codes "d" ∷ []) ≡ None)
 build_miscounted = (refl, refl, refl)
 
+-- the changes stand in the script, not among the words
+replay_miscounted : (asked_by (codes "replay" ∷ codes "r" ∷ codes "b" ∷ []) ≡ None) × (asked_by (codes "replay" ∷ codes "r" ∷ codes "b" ∷ codes "s" ∷ codes "c" ∷ []) ≡ None)
+    × (asked_by (codes "Replay" ∷ codes "r" ∷ codes "b" ∷ codes "s" ∷ []) ≡ None)
+replay_miscounted = (refl, refl, refl)
+
 rect_turned : asked_by (codes "nodes" ∷ codes "1 1 0 0" ∷ codes "a" ∷ []) ≡ None
 unfolding opened
 rect_turned = refl
@@ -222,6 +232,29 @@ named_by_fold = (refl, refl)
 of_build : plan_of (build (codes "r") (codes "b") (codes "o"))
     ≡ reads (record { name = codes "r"; grammar = rule_table }) (λ table. reads (record { name = codes "b"; grammar = object_text }) (λ text. no_more))
 of_build = refl
+
+-- two publications of one file with one of another between them, a question, and a note
+abbrev script : List ℕ
+script =
+    codes "1 P 2024-03-01-00 c%20%1.opl" ++ 10 ∷ codes "0 Q A x" ++ 10 ∷ codes "# 0 P 2024-03-01-00 none" ++ 10 ∷ codes "0 P 2024-02-29-23 c2.opl" ++ 13 ∷ 10 ∷ codes " 1 P 2024-03-01-00 c%20%1.opl "
+
+-- what is read after a file of this text
+abbrev after_text : List ℕ → Plan → Plan
+after_text text no_more = no_more
+after_text text (reads first rest) = rest text
+
+-- rules and a base, then the script, then the file of each publication: a name that comes twice is read twice
+of_replay : plan_of (replay_script (codes "r") (codes "b") (codes "s"))
+    ≡ reads (record { name = codes "r"; grammar = rule_table }) (λ table. reads (record { name = codes "b"; grammar = object_text }) (λ text. script_and_changes (codes "s")))
+of_replay = refl
+
+of_script : after_text script (script_and_changes (codes "s")) ≡ in_turn (object_texts (codes "c 1.opl" ∷ codes "c2.opl" ∷ codes "c 1.opl" ∷ []))
+unfolding opened
+of_script = refl
+
+-- the files of a script are not counted, and none is written
+named_by_replay : (files_named (replay_script (codes "r") (codes "b") (codes "s")) ≡ 0) × (output_of (replay_script (codes "r") (codes "b") (codes "s")) ≡ None)
+named_by_replay = (refl, refl)
 
 written_by : (r : Rect) → (output_of (nodes r (codes "a")) ≡ None) × (output_of (dump (codes "a")) ≡ None) × (output_of (check (codes "a")) ≡ None)
     × (output_of (build (codes "r") (codes "b") (codes "o")) ≡ Some (codes "o"))
@@ -282,10 +315,24 @@ good_file : break_in map_file (bare_base 2 2) ≡ None
 unfolding opened
 good_file = refl
 
--- no bytes are a good table and a good text, and no file
-no_bytes : (break_in rule_table [] ≡ None) × (break_in object_text [] ≡ None) × (break_in map_file [] ≡ Some (InFile (record { at = 0; kind = file.Short })))
+good_script : break_in script_text script ≡ None
 unfolding opened
-no_bytes = (refl, refl, refl)
+good_script = refl
+
+script_break_rows : (break_in script_text (codes "9 Q A x") ≡ Some (InScript (record { at = 0; kind = step.BadLane })))
+    × (break_in script_text (codes "# a" ++ 10 ∷ codes "0 P 2024-02-29-23 " ++ 13 ∷ 10 ∷ []) ≡ Some (InScript (record { at = 22; kind = step.BadName })))
+unfolding opened
+script_break_rows = (refl, refl)
+
+-- no bytes are a good table, a good text and a good script, and no file
+no_bytes : (break_in rule_table [] ≡ None) × (break_in object_text [] ≡ None) × (break_in script_text [] ≡ None) × (break_in map_file [] ≡ Some (InFile (record { at = 0; kind = file.Short })))
+unfolding opened
+no_bytes = (refl, refl, refl, refl)
+
+script_break_texts : map break_text (map (λ k. InScript (record { at = 7; kind = k })) (step.NotUtf8 ∷ step.BadLane ∷ step.BadVerb ∷ step.BadStamp ∷ step.BadName ∷ step.BadQuery ∷ step.OverLimit ∷ []))
+    ≡ codes "NotUtf8 at 7" ∷ codes "BadLane at 7" ∷ codes "BadVerb at 7" ∷ codes "BadStamp at 7" ∷ codes "BadName at 7" ∷ codes "BadQuery at 7" ∷ codes "OverLimit at 7" ∷ []
+unfolding opened
+script_break_texts = refl
 
 break_texts : (break_text far_zoom_break ≡ codes "BadZoom at 10") × (break_text located_break ≡ codes "LocatedRef at 3")
     × (break_text (InFile (record { at = 0; kind = file.Short })) ≡ codes "Short at 0") × (break_text (InFile (record { at = 268435455; kind = file.BadCount })) ≡ codes "BadCount at 268435455")
@@ -334,6 +381,21 @@ folded_of_two bytes file = record { bytes = bytes; file = file; same = refl }
 bare_rows : Job (ask_files (View (rect 0 0 3600000000 1800000000) 22) (codes "a" ∷ [])) (bare_base 2 2 ∷ []) (prints (codes "rows 0" ++ 10 ∷ []))
 unfolding opened
 bare_rows = refl
+
+-- a script of no lines leaves the base alone
+played_none : Job (replay_script (codes "r") (codes "b") (codes "s")) ([] ∷ [] ∷ [] ∷ []) (prints (codes "history 0" ++ 10 ∷ codes "files 1" ++ 10 ∷ codes "base - - 0 0" ++ 10 ∷ []))
+unfolding opened
+played_none = record {
+  rules = [];
+  spelled = record { spelled = refl; within = omega arith };
+  base = [];
+  lines = record { spelled = refl; within = omega arith };
+  steps = [];
+  read = record { spelled = refl; within = omega arith };
+  changes = [];
+  spell = tt;
+  same = refl;
+}
 
 -- Endings.
 
@@ -446,6 +508,34 @@ base_broken = refl
 both_good : (stop (named (codes "r") [] ∷ named (codes "b") [] ∷ []) ≡ None) × (stop (named (codes "o") located ∷ named (codes "r") [] ∷ named (codes "b") [] ∷ []) ≡ None)
 unfolding opened
 both_good = (refl, refl)
+
+-- Where they end a replay: with good rules and a good base, at the script or at a file that it names.
+abbrev played_stop : List NamedFile → Option Ending
+played_stop files = first_stop (contents_of (named (codes "r") [] ∷ named (codes "b") [] ∷ files)) (plan_of (replay_script (codes "r") (codes "b") (codes "s")))
+
+script_missing : played_stop [] ≡ Some (read_fault (codes "s"))
+unfolding opened
+script_missing = refl
+
+script_broken : played_stop (named (codes "s") (codes "9 Q A x") ∷ []) ≡ Some (refused (codes "s") (InScript (record { at = 0; kind = step.BadLane })))
+unfolding opened
+script_broken = refl
+
+-- the first of its files that is missing or breaks, in the order of the lines and under its own name
+changes_missing : (played_stop (named (codes "s") script ∷ []) ≡ Some (read_fault (codes "c 1.opl")))
+    × (played_stop (named (codes "s") script ∷ named (codes "c 1.opl") [] ∷ []) ≡ Some (read_fault (codes "c2.opl")))
+unfolding opened
+changes_missing = (refl, refl)
+
+changes_broken : (played_stop (named (codes "s") script ∷ named (codes "c 1.opl") [] ∷ named (codes "c2.opl") located ∷ []) ≡ Some (refused (codes "c2.opl") located_break))
+    × (played_stop (named (codes "s") script ∷ named (codes "c 1.opl") located ∷ []) ≡ Some (refused (codes "c 1.opl") located_break))
+unfolding opened
+changes_broken = (refl, refl)
+
+-- what a note names is not read
+played_good : played_stop (named (codes "s") script ∷ named (codes "c 1.opl") [] ∷ named (codes "c2.opl") (codes "n5 x180 y-90") ∷ []) ≡ None
+unfolding opened
+played_good = refl
 
 file_broken : first_stop (contents_of (named (codes "f") (bare_base 2 1) ∷ [])) (plan_of (check (codes "f"))) ≡ Some (refused (codes "f") (InFile (record { at = 123; kind = file.BadConfirm })))
 unfolding opened
