@@ -55,13 +55,13 @@ ends_behind (f ∷ files) [] before after first = absurd first
 ends_behind (f ∷ files) (t ∷ texts) before after first = inr (t, first.0, first.1, ends_behind files texts first.0 after first.2)
 
 -- the names of two lists in turn
-both_names : (names more : List (List ℕ)) → object_texts names ++ object_texts more ≡ object_texts (names ++ more)
+pub both_names : (names more : List (List ℕ)) → object_texts names ++ object_texts more ≡ object_texts (names ++ more)
 both_names [] more = refl
 both_names (name ∷ names) more = ap (λ (files : List Input). input name object_text ∷ files) (both_names names more)
 
 -- Texts and changes.
 
-one_more_text : (texts : List (List ℕ)) (changes : List (List Line)) (text : List ℕ) (lines : List Line) → AreTexts texts changes → OplText text lines
+pub one_more_text : (texts : List (List ℕ)) (changes : List (List Line)) (text : List ℕ) (lines : List Line) → AreTexts texts changes → OplText text lines
     → AreTexts (texts ++ text ∷ []) (changes ++ lines ∷ [])
 one_more_text [] [] text lines are is = (is, tt)
 one_more_text [] (c ∷ changes) text lines are is = absurd are

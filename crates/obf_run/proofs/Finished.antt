@@ -133,3 +133,9 @@ answer_caused (Ok a) text told many e files out task few none works ends put not
     within_caused many e files out task few (printed_caused e files out task (text a) none works put)
 answer_caused (Err b) text told many e files out task few none works ends put not_put =
     within_caused many e files out task few (subst (λ (e : Ending). Caused e files out task) (sym not_put.0) (early_caused (told b) files out task ends not_put.1))
+
+-- what ended among the files ended early
+pub among_early : {A B : Type 0} (made : Result A B) (told : B → Ending) (files : Change FilesState) (task : Task)
+    → IfErr made (λ b. EndsAmong task.plan files.before files.after (told b)) → IfErr made (λ b. EndsEarly (told b) files task)
+among_early (Ok a) told files task ends = ends
+among_early (Err b) told files task ends = inl ends

@@ -11,12 +11,18 @@ use Rattle.live_model.specs.Rules.{RuleText}
 use Rattle.live_model.specs.Stores.{apply}
 use Rattle.live_model.proofs.TextReadings.{read_has_none as lines_have_none}
 use Rattle.tag_rules.proofs.RuleLaw.{read_has_none as rules_have_none}
+use Rattle.line_texts.specs.Forms.{IsText}
+use Rattle.line_texts.proofs.Exactness.{read_has_none as steps_have_none}
+use Rattle.script_text.specs.declared.breaks.ScriptKind.{ScriptKind}
+use Rattle.script_text.specs.declared.steps.Step.{Step}
+use Rattle.script_text.specs.Scripts.{script_form}
+use Rattle.script_text.specs.StepLaw.{steps_are_exact}
 use Rattle.outside.specs.Files.{FilesState, OnlyReads}
 use Rattle.outside.specs.Whole.{Explains, IsWhole, ReadsPart}
 use Rattle.outside.specs.declared.whole.WholeError.{WholeError}
 use Rattle.outside.specs.declared.whole.WholeError.TheVariants as error
-use Rattle.run_model.specs.declared.breaks.Break.TheVariants.{InRules, InObjects}
-use Rattle.run_model.specs.Inputs.{Grammar, Input, input, rule_table, object_text, break_in}
+use Rattle.run_model.specs.declared.breaks.Break.TheVariants.{InRules, InObjects, InScript}
+use Rattle.run_model.specs.Inputs.{Grammar, Input, input, rule_table, object_text, script_text, break_in}
 use Rattle.run_model.specs.Jobs.{IsStoreOf}
 use Rattle.run_model.specs.Reads.{EndsAt, HasRead, limit}
 use Rattle.obf_run.specs.Finishing.{unread}
@@ -35,6 +41,15 @@ pub lines_read : (before after : FilesState) (name text seen : List ℕ) (lines 
 lines_read before after name text seen lines whole only same spelled =
     let spelled : OplText text lines = subst (λ (t : List ℕ). OplText t lines) same spelled in
     let good : break_in object_text text ≡ None = ap (λ (b : Option OplBreak). option_map (λ (b : OplBreak). InObjects b) b) (lines_have_none text lines spelled) in
+    record { text = text; read = record { whole = whole; good = good; only = only }; holds = spelled }
+
+-- a script, seen as the same bytes
+pub steps_read : (before after : FilesState) (name text seen : List ℕ) (steps : List Step) → IsWhole before after name limit text → OnlyReads before after
+    → seen ≡ text → IsText script_form seen steps → HasRead before after (input name script_text) (λ t. IsText script_form t steps)
+steps_read before after name text seen steps whole only same spelled =
+    let spelled : IsText script_form text steps = subst (λ (t : List ℕ). IsText script_form t steps) same spelled in
+    let good : break_in script_text text ≡ None =
+    ap (λ (b : Option (ℕ × ScriptKind)). option_map (λ (b : ℕ × ScriptKind). InScript (record { at = b.0; kind = b.1 })) b) (steps_have_none script_form steps_are_exact text steps spelled) in
     record { text = text; read = record { whole = whole; good = good; only = only }; holds = spelled }
 
 -- and the store that its lines make

@@ -6,3 +6,4 @@ pub mod HeldImages
 pub mod Follows
 pub mod Asks
 pub mod Folds
+pub mod Replays

@@ -1,3 +1,4 @@
 pub mod Finishing
 pub mod Changing
 pub mod Images
+pub mod Replaying

@@ -1,26 +1,32 @@
 //! The files of a run, read one by one and taken for what they are to be.
 
 ghost use Rattle.std.specs.Prelude.{◌≡◌, IfErr, IfOk};
+ghost use Rattle.std.specs.Arc.{arc_value};
 ghost use Rattle.std.specs.List.{AllByRecursion};
+ghost use Rattle.line_texts.specs.Forms.{IsText};
 ghost use Rattle.live_model.specs.Objects.{IsGoodLine};
 ghost use Rattle.live_model.specs.OplTexts.{OplText};
 ghost use Rattle.live_model.specs.Rules.{RuleText};
 ghost use Rattle.live_model.specs.Stores.{IsStore};
 ghost use Rattle.outside.specs.Files.{OnlyReads};
 ghost use Rattle.run_model.specs.Endings.{ending, name_bytes};
-ghost use Rattle.run_model.specs.Inputs.{input, map_file, object_text, rule_table};
+ghost use Rattle.run_model.specs.Inputs.{input, map_file, object_text, rule_table, script_text};
 ghost use Rattle.run_model.specs.Jobs.{IsStoreOf};
 ghost use Rattle.run_model.specs.Reads.{EndsAt, HasRead};
+ghost use Rattle.script_text.specs.Scripts.{IsStep, script_form};
 ghost use Rattle.obf_run.specs.Finishing.{unread};
 
 use entity_store::Store;
-use live_model::{Line, NoMemory};
+use line_texts::LineError;
+use live_model::{Line, Lines, List, NoMemory};
 use obf_reader::Image;
 use obf_wire::FileError;
 use opl_reader::{OplError, read_all};
 use outside::{Files, WholeError, read_whole};
 use run_model::{Break, Name, Status};
+use script_text::{Step, read_script};
 use std::alloc::Global;
+use std::sync::Arc;
 use tag_rules::{RuleError, Rules};
 
 /// The most bytes that a file may have, read or written.
@@ -92,6 +98,51 @@ pub fn read_lines<'a, F: Files>(
         Err(OplError::Broken(first)) => Err(Status::Refused {
             file,
             first: Break::InObjects(first),
+        }),
+    }
+}
+
+/// Reads the lines of a text of objects, to be shared.
+#[tactic(auto, using(crate::proofs::GoodTexts::read_part))]
+pub fn read_shared<'a, F: Files>(
+    alloc: Global,
+    files: &mut F,
+    file: Name<'a>,
+) -> Result<Arc<Lines>, Status<'a>>
+    ensures lines { IfOk result (λ lines. HasRead (F.state files.old) (F.state files.new) (input (name_bytes file.entry) object_text) (λ text. OplText text (arc_value lines))) }
+    ensures good { IfOk result (λ lines. AllByRecursion IsGoodLine (arc_value lines)) }
+    ensures ends { IfErr result (λ status. EndsAt (input (name_bytes file.entry) object_text) (F.state files.old) (F.state files.new) (ending status)) }
+    ensures only_reads { OnlyReads (F.state files.old) (F.state files.new) }
+{
+    let lines = read_lines(alloc, files, file)?;
+    match Arc::new(alloc, List::from_vec(lines)) {
+        Ok(shared) => Ok(shared),
+        Err(_) => Err(Status::NoMemory),
+    }
+}
+
+/// Reads a script.
+#[tactic(auto, using(crate::proofs::GoodTexts::whole_part, crate::proofs::GoodTexts::unread_ends))]
+pub fn read_steps<'a, F: Files>(
+    alloc: Global,
+    files: &mut F,
+    file: Name<'a>,
+) -> Result<Vec<Step>, Status<'a>>
+    ensures steps { IfOk result (λ steps. HasRead (F.state files.old) (F.state files.new) (input (name_bytes file.entry) script_text) (λ text. IsText script_form text steps.items)) }
+    ensures good { IfOk result (λ steps. AllByRecursion IsStep steps.items) }
+    ensures ends { IfErr result (λ status. EndsAt (input (name_bytes file.entry) script_text) (F.state files.old) (F.state files.new) (ending status)) }
+    ensures only_reads { OnlyReads (F.state files.old) (F.state files.new) }
+{
+    let text = match read_whole(alloc, files, file.as_str(), LIMIT) {
+        Ok(text) => text,
+        Err(e) => return Err(not_read(file, e)),
+    };
+    match read_script(alloc, &text) {
+        Ok(steps) => Ok(steps),
+        Err(LineError::NoMemory) => Err(Status::NoMemory),
+        Err(LineError::Broken(first)) => Err(Status::Refused {
+            file,
+            first: Break::InScript(first),
         }),
     }
 }

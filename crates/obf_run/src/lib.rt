@@ -16,6 +16,7 @@ mod images;
 mod inputs;
 mod jobs;
 mod packing;
+mod replaying;
 mod runs;
 mod starting;
 

@@ -3,7 +3,7 @@
 ghost use Rattle.std.specs.Prelude.{◌≡◌, ◌≢◌, ◌⊎◌, ◌∷◌, ◌++◌, [], Some, IfErr, IfOk};
 ghost use Rattle.run_model.specs.Endings.{NamesFile, ending, no_memory};
 ghost use Rattle.run_model.specs.Jobs.{task_of};
-ghost use Rattle.run_model.specs.Requests.{NamesFiles, ask_files, asked, build, change_map, fold_files};
+ghost use Rattle.run_model.specs.Requests.{NamesFiles, ask_files, asked, build, change_map, fold_files, replay_script};
 ghost use Rattle.run_model.specs.Runs.{CausedBy, EndsSo, EndsWithCode, IsLinePut, PutsLine, ReceivesNothing, Run, StepsFor, change};
 ghost use Rattle.obf_run.specs.Finishing.{IsPut};
 
@@ -13,6 +13,7 @@ use crate::folding::folded_file;
 use crate::images::MOST_FILES;
 use crate::jobs::{built_file, check_answer, dump_answer, nodes_answer};
 use crate::packing::{finish, finish_file, put_answer};
+use crate::replaying::played_answer;
 use live_model::{NoMemory, Query, Steps, Text};
 use outside::{Files, Gate, Sink, put_all};
 use run_model::{Arguments, NO_MEMORY, Name, Period, Request, Status, fixed_line, read_request};
@@ -143,6 +144,11 @@ fn answer_request<'a, F: Files, K: Sink, L: Ledger>(
             files: names,
         } => ask(alloc, &query, names, files, out, steps),
         Request::Check { file } => print(check_answer(alloc, files, Name::Given(file)), out),
+        Request::Replay {
+            rules,
+            base,
+            script,
+        } => replay(alloc, rules, base, script, files, out),
     }
 }
 
@@ -248,6 +254,23 @@ fn ask<'a, F: Files, K: Sink, L: Ledger>(
         return Status::TooManyFiles;
     }
     print(question_answer(alloc, files, query, names, steps), out)
+}
+
+/// Plays a script over a base, and puts what is printed of it.
+fn replay<'a, F: Files, K: Sink>(
+    alloc: Global,
+    rules: &'a str,
+    base: &'a str,
+    script: &'a str,
+    files: &mut F,
+    out: &mut K,
+) -> Status<'a>
+    ensures { CausedBy (ending result) (change (F.state files.old) (F.state files.new)) (change (K.state out.old) (K.state out.new)) (task_of (replay_script rules.now base.now script.now)) }
+{
+    let rules = Name::Given(rules);
+    let base = Name::Given(base);
+    let script = Name::Given(script);
+    print(played_answer(alloc, files, rules, base, script), out)
 }
 
 /// Puts the line of the status. Where the line names a file and memory for it is refused, the status becomes `NoMemory`, whose
