@@ -32,7 +32,14 @@ const STREETS: &str =
 const STREETS_DUMPED: &str =
     "n1 v1 dV Tname=Aldorf,place=town x13.1 y52.4\nn2 v1 dV Tamenity=cafe,name=Bo%20%Bar x13.1001 y52.4001\nn3 v1 dV T x13.1 y52.4002\nw20 v1 dV Thighway=residential,name=Straße Nn3,n4,n5\nr30 v1 dV Trestriction=no_left_turn,type=restriction Mw20@from,n5@via,w22@to\n";
 
-static ROWS: [Row; 12] = [
+// A base of every kind of object, in no order, with every letter of a field.
+const EVERY_KIND: &str =
+    "# A base of every kind of object, in no order, with every letter of a field.\nr30 v1 Ttype=restriction,restriction=no_left_turn Mw20@from,n5@via,w22@to\nn1 v1 dV c10 t2024-01-05T10:00:00Z i7 uada Tplace=town,name=Aldorf x13.1 y52.4\nw20 v1 Thighway=residential,name=Stra%df%e Nn3,n4,n5\nn2 v1 dV Tamenity=cafe,name=Bo%20%Bar x13.1001 y52.4001\nn3 v1 x13.1 y52.4002\n\n\t\nn-3 \t\ty2 x1\nn4 x y\nn5 v7 y-0.0000001 x-180 Tb=2,a=1,b=3\nn6 dD\nn7 v1 x1 y1\nn7 v2 dD x1 y1 u\nn8 v1\nn8 v2 Tnote=%25%%2c%%3d%%40%%20%,%7f%=,= x007.10 y00.0\nn9 v4294967295 T%10ffff%=%0% c-5 t i0 u%41%b\nw21 N\nw22 v3 Nn1,n-2,n281474976710656\nr31 M\nr32 v1 Mn1@a@b,r31@,w21@%20%\nn9 dV v1 T x-0 y90\n";
+
+const EVERY_KIND_DUMPED: &str =
+    "n-3 v0 dV T x1 y2\nn1 v1 dV Tname=Aldorf,place=town x13.1 y52.4\nn2 v1 dV Tamenity=cafe,name=Bo%20%Bar x13.1001 y52.4001\nn3 v1 dV T x13.1 y52.4002\nn4 v0 dV T x y\nn5 v7 dV Ta=1,b=3 x-180 y-0.0000001\nn8 v2 dV T=,note=%25%%2c%%3d%%40%%20%,%7f%= x7.1 y0\nn9 v1 dV T x0 y90\nw20 v1 dV Thighway=residential,name=Straße Nn3,n4,n5\nw21 v0 dV T N\nw22 v3 dV T Nn1,n-2,n281474976710656\nr30 v1 dV Trestriction=no_left_turn,type=restriction Mw20@from,n5@via,w22@to\nr31 v0 dV T M\nr32 v1 dV T Mn1@a%40%b,r31@,w21@%20%\n";
+
+static ROWS: [Row; 13] = [
     Row {
         words: &["nodes", "13 52 14 53", "a.opl"],
         name: "a.opl",
@@ -126,6 +133,14 @@ static ROWS: [Row; 12] = [
         name: "town.opl",
         text: STREETS,
         out: STREETS_DUMPED,
+        code: 0,
+        err: "",
+    },
+    Row {
+        words: &["dump", "every.opl"],
+        name: "every.opl",
+        text: EVERY_KIND,
+        out: EVERY_KIND_DUMPED,
         code: 0,
         err: "",
     },
