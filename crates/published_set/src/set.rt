@@ -106,7 +106,7 @@ impl OverlaySet {
         ensures stays { OnErr result (self.new ≡ self.old) }
         ensures standing { IsStanding self.new }
     {
-        match first_missing(work.numbers(), self.numbers.as_slice()) {
+        match self.missing(&work) {
             Some(file) => Err(Missing { file }),
             None => {
                 let number = self.next_number();
@@ -115,6 +115,13 @@ impl OverlaySet {
                 Ok(())
             }
         }
+    }
+
+    /// The number of the first file of a plan that is not in the set any more, if there is one. It takes no memory.
+    pub fn missing(&self, work: &FoldWork) -> Option<u64>
+        ensures { result ≡ missing work.now self.now.state }
+    {
+        first_missing(work.numbers(), self.numbers.as_slice())
     }
 
     /// Takes in an operation, whatever it is, with further owners of what it holds: does what `add` and `replace` do, and

@@ -9,24 +9,10 @@ use Rattle.published_set.proofs.Files.{images_length}
 use Rattle.published_set.proofs.Replacing.{folded_stands, missing_is}
 use Rattle.published_set.proofs.set.OverlaySet.replace.Goals as goal
 
-pub returns-in-Some-clause-cause : goal.returns-in-Some-clause-cause
-returns-in-Some-clause-cause c =
-    subst (λ (s : PublishedSet). missing c.args.work s.state ≡ Some c.in-Some.file) c.self.view_is
-    (sym (missing_is c.args.work (record { history = map entry_of c.self.inside.history.items; files = files_of c.self.inside.numbers.items (images_in (map arc_value c.self.inside.images.items)) }) c.self.inside.numbers.items
-    (images_in (map arc_value c.self.inside.images.items)) (c.self.invariant.0 ∙ sym (images_length arc_value c.self.inside.images.items)) refl)
-    ∙ ap₂ first_missing (sym c.numbers.ensures) (sym c.as_slice.ensures.value) ∙ sym c.in-Some.ensures)
-
-pub returns-in-None-clause-cause : goal.returns-in-None-clause-cause
-returns-in-None-clause-cause c =
-    subst (λ (s : PublishedSet). missing c.args.work s.state ≡ None) c.self.view_is
-    (sym (missing_is c.args.work (record { history = map entry_of c.self.inside.history.items; files = files_of c.self.inside.numbers.items (images_in (map arc_value c.self.inside.images.items)) }) c.self.inside.numbers.items
-    (images_in (map arc_value c.self.inside.images.items)) (c.self.invariant.0 ∙ sym (images_length arc_value c.self.inside.images.items)) refl)
-    ∙ ap₂ first_missing (sym c.numbers.ensures) (sym c.as_slice.ensures.value) ∙ sym c.in-None.ensures)
-
 pub returns-in-None-clause-standing : goal.returns-in-None-clause-standing
 returns-in-None-clause-standing c =
     subst IsStanding
     (sym (c.put_fold.ensures
     ∙ ap₂ (λ (names : List ℕ) (image : Image). record { base = c.args.self.now.base; state = with_file names image c.args.self.now.state })
-    (c.numbers-in-None.ensures ∙ ap (λ (plan : FoldPlan). numbers_of plan.files) c.into_parts-plan.ensures.plan) c.into_parts-plan.ensures.image))
-    (folded_stands c.args.self.now c.args.work c.requires.standing c.requires.fits (returns-in-None-clause-cause c))
+    (c.numbers.ensures ∙ ap (λ (plan : FoldPlan). numbers_of plan.files) c.into_parts-plan.ensures.plan) c.into_parts-plan.ensures.image))
+    (folded_stands c.args.self.now c.args.work c.requires.standing c.requires.fits (sym c.in-None.ensures))
