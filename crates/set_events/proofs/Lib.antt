@@ -1,0 +1,4 @@
+pub mod Publishing
+pub mod Following
+pub mod Preparing
+pub mod Ages
