@@ -4,16 +4,13 @@ use Rattle.std.specs.List.{AllByRecursion}
 use Rattle.std.proofs.lemmas.List.{length-append}
 use Rattle.live_model.specs.declared.objects.Entity.{Entity}
 use Rattle.live_model.specs.declared.objects.Line.{Line}
-use Rattle.live_model.specs.declared.records.Rec.{Rec}
 use Rattle.live_model.specs.declared.rules.Rule.{Rule}
+use Rattle.live_model.specs.declared.levels.Level.TheVariants.{Hour}
 use Rattle.live_model.specs.Ids.{Id}
-use Rattle.live_model.specs.Maps.{Overlay, overlay}
+use Rattle.live_model.specs.Maps.{published}
 use Rattle.live_model.specs.Objects.{IsGoodLine}
 use Rattle.live_model.specs.Stores.{apply}
-use Rattle.stamp_core.specs.declared.head.Head.{Head}
-use Rattle.change_image.specs.Hours.{hour_head}
-use Rattle.change_diff.specs.Overlays.{IsOverlayOf}
-use Rattle.overlay_set.specs.Sets.{Entry, Image, State}
+use Rattle.overlay_set.specs.Sets.{Entry, Image, State, lines_of, run_image}
 use Rattle.overlay_set.specs.Standing.{Stands}
 use Rattle.overlay_set.specs.Swaps.{FoldPlan, Add, Takes, applied}
 use Rattle.overlay_set.specs.Machines.{Accepted, Publish, Reply, limits_of_a_board, publish, refused, with_entry, with_room}
@@ -21,36 +18,24 @@ use Rattle.overlay_set.specs.MachineLaws.{MachineStands}
 use Rattle.published_set.specs.Sets.{PublishedSet, rules_of}
 use Rattle.live_core.specs.Running.{Running, after_event, machine_of, with_now}
 use Rattle.live_core.specs.Kept.{IsKept, running_over}
-use Rattle.live_core.proofs.Keeping.{base_store, history_store, rules_held, running_moved, stands_after}
-use Rattle.live_core.proofs.Playing.{room_keeps}
-use Rattle.live_core.proofs.Publishing.{accepted, may_come, wanted}
+use Rattle.set_events.proofs.Publishing.{accepted, may_come, room_keeps, wanted}
+use Rattle.set_events.proofs.Preparing.{rules_held}
+use Rattle.live_core.proofs.Keeping.{running_moved, stands_after}
 
 -- Before it comes in.
-
--- the image of a change, with the rules and the lines that it was made of
-pub hour_made : (head : Head) (image : Image) (rules table more : List Rule) (store : List Entity) (lines read : List Line) (marks : List Id) (records : List Rec)
-    → image ≡ record { head = head; rules = more; overlay = record { marks = marks; records = records } } → more ≡ rules → IsOverlayOf table store read marks records → table ≡ rules → read ≡ lines
-    → image ≡ record { head = head; rules = rules; overlay = overlay rules store lines }
-hour_made head image rules table more store lines read marks records is m over t l =
-    is
-    ∙ ap₂ (λ (rs : List Rule) (o : Overlay). record { head = head; rules = rs; overlay = o }) m
-    (ap₂ (λ (ms : List Id) (rs : List Rec). record { marks = ms; records = rs }) over.marks over.records ∙ ap₂ (λ (rs : List Rule) (ls : List Line). overlay rs store ls) t l)
 
 -- what is known of a publication whose image is made
 pub record IsReady (set : PublishedSet) (held : List (Option PublishedSet)) (plans : List (Option FoldPlan)) (store : List Entity) (index : List (ℕ × List Id)) (entry : Entry) (image : Image) : Type 0 where
   pub kept : IsKept (running_over set held plans) store index
   pub wanted : refused limits_of_a_board (rules_of set) set.base set.state entry.stamp ≡ None
   pub good : AllByRecursion IsGoodLine entry.lines
-  pub made : image ≡ record { head = hour_head entry.stamp; rules = rules_of set; overlay = overlay (rules_of set) store entry.lines }
+  pub made : image ≡ run_image (rules_of set) (published (apply [] set.base) (lines_of set.state.history)) Hour (entry ∷ [])
 
 -- it may come in after the fold that makes room
 pub ready_takes : (set : PublishedSet) (held : List (Option PublishedSet)) (plans : List (Option FoldPlan)) (store : List Entity) (index : List (ℕ × List Id)) (entry : Entry) (image : Image)
     → IsReady set held plans store index entry image → Takes (rules_of set) set.base (with_room limits_of_a_board (rules_of set) set.base set.state) (Add entry image)
 ready_takes set held plans store index entry image ready =
-    may_come (rules_of set) set.base set.state entry image
-    (history_store (apply [] set.base) set.state.history (base_store set.base ready.kept.good_base) ready.kept.stands.good) ready.good
-    (wanted (rules_of set) set.base set.state entry.stamp ready.kept.stands.stands ready.wanted)
-    (ready.made ∙ ap (λ (es : List Entity). record { head = hour_head entry.stamp; rules = rules_of set; overlay = overlay (rules_of set) es entry.lines }) ready.kept.after_history)
+    may_come (rules_of set) set.base set.state entry image (wanted (rules_of set) set.base set.state entry.stamp ready.kept.stands.stands ready.wanted) ready.made
 
 -- After it came in.
 

@@ -9,7 +9,6 @@ use Rattle.live_model.specs.Ids.{Id}
 use Rattle.live_model.specs.Maps.{published}
 use Rattle.live_model.specs.Objects.{IsGoodLine}
 use Rattle.live_model.specs.Stores.{IsStore, apply}
-use Rattle.map_laws.proofs.OverlayProof.{applied_store}
 use Rattle.ref_index.specs.Indexes.{Indexes}
 use Rattle.overlay_set.specs.Sets.{Entry, MapFile, State, images_of, lines_of, opening}
 use Rattle.overlay_set.specs.Standing.{Stands}
@@ -23,7 +22,10 @@ use Rattle.overlay_set.proofs.Answering.{history_stays}
 use Rattle.overlay_set.proofs.Stepping.{all_get, opened_law}
 use Rattle.published_set.specs.Sets.{IsStanding, PublishedSet, rules_of}
 use Rattle.live_core.specs.Running.{IsStep, Running, after_event, begun, machine_of, running, with_now}
-use Rattle.live_core.specs.Kept.{IsKept, StandsOver, running_over, state_in}
+use Rattle.set_events.specs.Asking.{StandsOver}
+use Rattle.set_events.specs.Kept.{IsKeptBeside}
+use Rattle.set_events.proofs.Preparing.{base_store, rules_held}
+use Rattle.live_core.specs.Kept.{IsKept, running_over, state_in}
 
 -- Places.
 
@@ -46,16 +48,7 @@ set_same [] i e = refl
 set_same (x ∷ xs) zero e = ap (λ y. y ∷ xs) (sym e)
 set_same (x ∷ xs) (suc i) e = ap (λ l. x ∷ l) (set_same xs i e)
 
--- Stores.
-
--- good base lines make a store
-pub base_store : (base : List Line) → AllByRecursion IsGoodLine base → IsStore (apply [] base)
-base_store base good = applied_store [] base (record { good = tt; rising = tt }) good
-
--- and so do they with a history of good lines
-pub history_store : (store : List Entity) (history : List Entry) → IsStore store → AreGood history → IsStore (published store (lines_of history))
-history_store store [] is good = is
-history_store store (e ∷ es) is good = history_store (apply store e.lines) es (applied_store store e.lines is good.0) good.1
+-- What stands goes on.
 
 forget : (rules : List Rule) (base : List Line) (m : Machine) → MachineStands rules base m → MachineStands rules base (machine_of (running rules base m))
 forget rules base m ms = record { stands = ms.stands; good = ms.good; seen_before = tt; held_before = ms.held_before; plans_fit = ms.plans_fit }
@@ -134,11 +127,15 @@ set_stands r set store index kept rules base now = record {
   good_history = subst (λ (s : State). AreGood s.history) now kept.stands.good;
 }
 
--- Held sets.
+-- beside the set of a machine are kept its store and index
+pub kept_beside : (set : PublishedSet) (held : List (Option PublishedSet)) (plans : List (Option FoldPlan)) (store : List Entity) (index : List (ℕ × List Id)) → IsKept (running_over set held plans) store index → IsKeptBeside set store index
+kept_beside set held plans store index kept = record {
+  standing = record { stands = kept.stands.stands; good_base = kept.good_base; good_history = kept.stands.good };
+  after_history = kept.after_history;
+  indexed = kept.indexed;
+}
 
--- a state that stands over some base lines has the rules that it stands with
-pub rules_held : (rules : List Rule) (base : List Line) (set : PublishedSet) → Stands rules base set.state → rules_of set ≡ rules
-rules_held rules base set st = ap (λ (fs : List MapFile). common_rules (images_of fs)) st.files
+-- Held sets.
 
 pub stands_held : (rules : List Rule) (base : List Line) (set : PublishedSet) → Stands rules base set.state → StandsOver set
 stands_held rules base set st = record { base = base; stands = subst (λ (rs : List Rule). Stands rs base set.state) (sym (rules_held rules base set st)) st }

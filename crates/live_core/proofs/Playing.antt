@@ -15,6 +15,7 @@ use Rattle.overlay_set.specs.Machines.{Event, Publish, Plan, Commit, Take, Ask, 
 use Rattle.overlay_set.specs.MachineLaws.{MachineStands}
 use Rattle.overlay_set.proofs.Answering.{history_stays}
 use Rattle.overlay_set.proofs.Laws.{asks}
+use Rattle.set_events.proofs.Publishing.{room_keeps}
 use Rattle.live_core.specs.Running.{Running, running, machine_of, after_event, answer_to, IsStep, after_events, answers_to, SeenLaw, SeenEventsLaw, IsMadeAnew, IsReplay, HasPlayed, IsNamed, IsPlayed}
 
 -- What passes have seen.
@@ -66,17 +67,6 @@ answers_more r events x =
     ∙ ap (λ (a : Reply). answers_to r events ++ a ∷ []) (sym (seen_law r.rules r.base (machine_after limits_of_a_board r.rules r.base (machine_of r) events) x).1)
 
 -- Histories grow.
-
-pub room_keeps : (rules : List Rule) (base : List Line) (s : State) → (with_room limits_of_a_board rules base s).history ≡ s.history
-room_keeps rules base s = go (is_full limits_of_a_board rules base s)
-  where
-    shrunk : (o : Option Period) → (with_fold_in o s).history ≡ s.history
-    shrunk None = refl
-    shrunk (Some p) = refl
-
-    go : (b : Bool) → (cond b (with_fold_in (shrinkable s) s) s).history ≡ s.history
-    go true = shrunk (shrinkable s)
-    go false = refl
 
 publish_grows : (rules : List Rule) (base : List Line) (s : State) (entry : Entry) → IsPrefix s.history (publish limits_of_a_board rules base s entry).0.history
 publish_grows rules base s entry = go (refused limits_of_a_board rules base s entry.stamp)

@@ -13,7 +13,6 @@
 //! many publications as the front counts.
 #![tactic(auto)]
 
-mod base;
 mod folds;
 mod laws;
 mod machine;

@@ -10,25 +10,25 @@ ghost use Rattle.overlay_set.specs.Machines.{Ask, Commit, Drop, Plan, Shrink, Ta
 ghost use Rattle.overlay_set.specs.Standing.{Stands};
 ghost use Rattle.published_set.specs.Sets.{IsStanding};
 ghost use Rattle.live_core.specs.Running.{IsMadeAnew, IsNamed, IsStep, after_event, answer_to, begun, machine_of, with_now};
-ghost use Rattle.live_core.specs.Kept.{entry_for};
+ghost use Rattle.set_events.specs.Kept.{entry_for};
 
-use crate::base::base_image;
-use crate::folds::{bring, due_plan, shrunk};
+use crate::folds::bring;
 use crate::places::{empty_places, item_at, put_at, take_at};
-use crate::publications::{changed, hour_file, make_room, publication, room_for, rules_in};
+use crate::publications::{make_room, uncounted};
 use crate::questions::answered;
-use crate::refusals::{front, refusal};
-use change_diff::Change;
+use crate::refusals::reply_for;
 use entity_store::Store;
 use fold_sets::fold_plan;
 use live_model::{Lines, Mem, Query};
 use overlay_set::{Event, Reply};
 use published_set::{FoldPlan, OverlaySet};
 use ref_index::RefIndex;
+use set_events::{Prepared, base_image, due_plan, front, refusal, room_for, shrunk};
 use stamp_core::Stamp;
 use std::alloc::Global;
-use std::marker::Model;
+use std::marker::{Brand, Model};
 use std::sync::Arc;
+use std::sync::ledger::Blank;
 use tag_rules::Rules;
 
 /// A set, with the sets that passes hold and the plans of workers. It is seen as its rules and base lines, the present state, the
@@ -144,7 +144,7 @@ impl Machine {
         ensures stays { OnErr result (self.new ≡ self.old) }
     {
         match refusal(&self.set, &stamp) {
-            Some(reply) => Ok(reply),
+            Some(cause) => Ok(reply_for(front(&self.set), cause)),
             None => self.accept(alloc, stamp, tag, lines),
         }
     }
@@ -158,21 +158,22 @@ impl Machine {
         ensures stays { OnErr result (self.new ≡ self.old) }
     {
         let room = room_for(alloc, &self.set)?;
-        let published = publication(stamp, tag, lines)?;
-        let change = changed(
+        let prepared = uncounted::<Brand>(
             alloc,
-            rules_in(self.set.images()),
+            &self.set,
             &mut self.store,
             &mut self.index,
-            lines.as_slice(),
+            stamp,
+            tag,
+            lines,
+            Blank::new(1),
         )?;
-        let image = hour_file(alloc, rules_in(self.set.images()), stamp, &change)?;
-        let Change {
-            marks: _,
-            records: _,
+        let Prepared {
+            published,
+            image,
             staged,
             refs,
-        } = change;
+        } = prepared;
         self.store.commit(staged);
         self.index.commit(refs);
         make_room(&mut self.set, room);

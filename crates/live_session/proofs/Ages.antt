@@ -11,33 +11,12 @@ use Rattle.overlay_set.specs.Standing.{AreApart, Stands}
 use Rattle.overlay_set.specs.Swaps.{Fits, FoldPlan, Replace, applied, fold_image, missing, plan_of, replaced}
 use Rattle.overlay_set.specs.Machines.{Commit, Plan, at_place, commit, commit_over, limits_of_a_board, with_fold}
 use Rattle.overlay_set.proofs.Folding.{PlanStands}
-use Rattle.overlay_set.proofs.Lists.{map-append}
-use Rattle.overlay_set.proofs.Places.{greatest_swap, replaced_at}
 use Rattle.overlay_set.proofs.Staying.{plan_stands}
 use Rattle.overlay_set.proofs.Planning.{plan_law}
 use Rattle.live_core.specs.Running.{Running, after_event}
-use Rattle.live_core.proofs.Publishing.{period_there}
+use Rattle.set_events.proofs.Ages.{fold_swaps}
+use Rattle.set_events.proofs.Publishing.{period_there}
 use Rattle.live_session.specs.Folding.{HasWorker, IsFoldedOn}
-
-numbers_three : (a b c : List MapFile) → numbers_of (a ++ (b ++ c)) ≡ numbers_of a ++ (numbers_of b ++ numbers_of c)
-numbers_three a b c = map-append (λ (f : MapFile). f.number) a (b ++ c) ∙ ap (λ l. numbers_of a ++ l) (map-append (λ (f : MapFile). f.number) b c)
-
--- files of a plan that stand one after another in a set
-fold_swaps : (rules : List Rule) (base : List Line) (s : State) (plan : FoldPlan) (image : Image) (st : Stands rules base s) → PlanStands plan st.above
-    → (files : List MapFile) → plan.files ≡ files → files ≢ [] → age (applied s (Replace plan image)) ≡ age s + 1
-fold_swaps rules base s plan image st place [] is some = absurd (some refl)
-fold_swaps rules base s plan image st place (r ∷ rs) is some =
-    let new : MapFile = record { number = age s + 1; image = image } in
-    let bottom : MapFile = record { number = 0; image = base_image rules base } in
-    let were : s.files ≡ (bottom ∷ place.front) ++ ((r ∷ rs) ++ place.back) = st.files ∙ ap (λ l. bottom ∷ l) (place.joined ∙ ap (λ l. place.front ++ (l ++ place.back)) is) in
-    let apart : AreApart (numbers_of ((bottom ∷ place.front) ++ ((r ∷ rs) ++ place.back))) = subst (λ fs. AreApart (numbers_of fs)) were st.apart in
-    let are : (applied s (Replace plan image)).files ≡ bottom ∷ (place.front ++ (new ∷ place.back)) =
-    ap₂ (λ (p : List MapFile) (fs : List MapFile). replaced (numbers_of p) new fs) is were ∙ replaced_at (bottom ∷ place.front) r rs place.back new apart in
-    let numbers_were : numbers_of s.files ≡ numbers_of (bottom ∷ place.front) ++ (numbers_of (r ∷ rs) ++ numbers_of place.back) = ap numbers_of were ∙ numbers_three (bottom ∷ place.front) (r ∷ rs) place.back in
-    let numbers_are : numbers_of (applied s (Replace plan image)).files ≡ numbers_of (bottom ∷ place.front) ++ ((age s + 1) ∷ numbers_of place.back) =
-    ap numbers_of are ∙ map-append (λ (f : MapFile). f.number) (bottom ∷ place.front) (new ∷ place.back) in
-    let below : greatest (numbers_of (bottom ∷ place.front) ++ (numbers_of (r ∷ rs) ++ numbers_of place.back)) < age s + 1 = subst (λ ns. greatest ns < age s + 1) numbers_were (omega arith) in
-    ap greatest numbers_are ∙ greatest_swap (numbers_of (bottom ∷ place.front)) (numbers_of (r ∷ rs)) (numbers_of place.back) (age s + 1) below
 
 -- What Plan and Commit make of a machine in which something is to be folded.
 

@@ -2,7 +2,7 @@ use Rattle.std.proofs.Common.{List, sym, ap₂, ◌∙◌}
 use Rattle.live_model.specs.declared.objects.Line.{Line}
 use Rattle.overlay_set.specs.Sets.{State}
 use Rattle.published_set.specs.Sets.{PublishedSet, rules_of}
-use Rattle.live_core.proofs.Publishing.{room_brought, room_made}
+use Rattle.set_events.proofs.Publishing.{room_brought, room_made}
 use Rattle.live_core.proofs.publications.make_room.Goals as goal
 
 pub bring-requires-clause-fits : goal.bring-requires-clause-fits

@@ -9,7 +9,8 @@ use Rattle.overlay_set.specs.Standing.{Stands}
 use Rattle.published_set.specs.Sets.{PublishedSet, rules_of}
 use Rattle.live_core.specs.Kept.{state_in}
 use Rattle.live_core.specs.Running.{Running}
-use Rattle.live_core.proofs.Keeping.{at_mapped, held_stands, rules_held, stands_held}
+use Rattle.set_events.proofs.Preparing.{rules_held}
+use Rattle.live_core.proofs.Keeping.{at_mapped, held_stands, stands_held}
 use Rattle.live_core.proofs.machine.Machine.ask.Goals as goal
 
 pub answered-requires : goal.answered-requires

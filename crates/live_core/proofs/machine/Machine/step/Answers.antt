@@ -1,6 +1,6 @@
 use Rattle.std.proofs.lemmas.Result.{IfOk-weaker}
 use Rattle.overlay_set.specs.Events.{event_of, reply_of}
-use Rattle.live_core.proofs.Keeping.{base_store}
+use Rattle.set_events.proofs.Preparing.{base_store}
 use Rattle.live_core.proofs.Playing.{anew_after}
 use Rattle.live_core.proofs.machine.Machine.step.Goals as goal
 

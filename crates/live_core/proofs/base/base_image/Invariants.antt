@@ -1,4 +1,0 @@
-use Rattle.live_core.proofs.base.base_image.Given as goal
-
-abbrev pub ghosts-all_records : goal.ghosts-all_records
-ghosts-all_records a = record { name = a.blank.name; parts = a.blank.parts }
