@@ -1,0 +1,11 @@
+pub mod Ends
+pub mod Degrees
+pub mod Plain
+pub mod Fields
+pub mod Holding
+pub mod Unescaping
+pub mod Runs
+pub mod Items
+pub mod Listing
+pub mod Referring
+pub mod Membership
